@@ -1,0 +1,54 @@
+-- The three numbers of each answer: the fault table of document 01, row by row. Assumes nothing.
+use mathlib.Core.Path.{_≡_}
+use Prim.Native.Nat.{ℕ}
+use mathlib.Core.Bool.{cond}
+use lib.Dec.{eqb}
+use borrow.Author.Tests.{eq-eqb, ne-eqb}
+use Rattle.answers.specs.declared.Numbers.{Numbers}
+use Rattle.answers.specs.declared.Answer.{Answer}
+use Rattle.answers.specs.declared.Answer.the-variants.{NoFault, Accepted, Translated, BookLength, BookHeader, BookEnd, BookRecord, PlanLength, PlanHeader, PlanEnd, ValueUnknown, DurationOutside, NotSuccessor, PastLastTick, RuleNotMet, TooManyAlternatives, TooLong, RoomTooShort, TooManyAtoms, NoSuchTimeline}
+
+-- "Each answer is three numbers: number, a, b"
+abbrev pub numbers : ℕ → ℕ → ℕ → Numbers
+numbers n a b = record { number = n; a = a; b = b }
+
+-- "those not named are 0"
+abbrev pub numbersOf : Answer → Numbers
+numbersOf NoFault = numbers 0 0 0
+numbersOf (Accepted triggers) = numbers 0 triggers 0
+numbersOf (Translated words alternatives) = numbers 0 words alternatives
+numbersOf BookLength = numbers 1 0 0
+numbersOf (BookHeader word) = numbers 2 word 0
+numbersOf BookEnd = numbers 3 0 0
+numbersOf (BookRecord table row) = numbers 4 table row
+numbersOf PlanLength = numbers 5 0 0
+numbersOf (PlanHeader word) = numbers 6 word 0
+numbersOf PlanEnd = numbers 7 0 0
+numbersOf (ValueUnknown timeline token) = numbers 8 timeline token
+numbersOf (DurationOutside timeline token) = numbers 9 timeline token
+numbersOf (NotSuccessor timeline token) = numbers 10 timeline token
+numbersOf (PastLastTick timeline token) = numbers 11 timeline token
+numbersOf (RuleNotMet rule token) = numbers 12 rule token
+numbersOf (TooManyAlternatives rule) = numbers 13 rule 0
+numbersOf (TooLong table) = numbers 14 table 0
+numbersOf (RoomTooShort words) = numbers 15 words 0
+numbersOf (TooManyAtoms rule) = numbers 16 rule 0
+numbersOf NoSuchTimeline = numbers 17 0 0
+
+-- nothing is wrong so far
+abbrev pub noFault : Numbers
+noFault = numbers 0 0 0
+
+-- this fault, or else what comes after it in the order of checking
+unfoldable pub orElse : Numbers → Numbers → Numbers
+orElse fault next = cond (eqb (fault .number) 0) next fault
+
+-- a fault is the answer, whatever comes after it
+pub else-fault : (x y : Numbers) → (x .number ≡ 0 → ⊥) → orElse x y ≡ x
+unfolding orElse
+else-fault x y h = rw (ne-eqb _ _ h)
+
+-- where nothing is wrong, the answer is the next one's
+pub else-next : (x y : Numbers) → x .number ≡ 0 → orElse x y ≡ y
+unfolding orElse
+else-next x y h = rw (eq-eqb _ _ h)

@@ -1,0 +1,72 @@
+// The answers of the judge, the translator and the reader: a case for each row of the fault table, and their numbers.
+ghost use mathlib.Core.Path.{_≡_};
+ghost use Rattle.answers.specs.Numbers.{numbers, numbersOf};
+
+// What is wrong, and where; the first three are the ways to be right.
+pub enum Answer {
+    NoFault,
+    Accepted { triggers: u32 },
+    Translated { words: u32, alternatives: u32 },
+    BookLength,
+    BookHeader { word: u32 },
+    BookEnd,
+    BookRecord { table: u32, record: u32 },
+    PlanLength,
+    PlanHeader { word: u32 },
+    PlanEnd,
+    ValueUnknown { timeline: u32, token: u32 },
+    DurationOutside { timeline: u32, token: u32 },
+    NotSuccessor { timeline: u32, token: u32 },
+    PastLastTick { timeline: u32, token: u32 },
+    RuleNotMet { rule: u32, token: u32 },
+    TooManyAlternatives { rule: u32 },
+    TooLong { table: u32 },
+    RoomTooShort { words: u32 },
+    TooManyAtoms { rule: u32 },
+    NoSuchTimeline,
+}
+
+// The three numbers that an answer is shown as.
+pub struct Numbers {
+    pub number: u32,
+    pub a: u32,
+    pub b: u32,
+}
+
+// A row of the fault table.
+fn row(number: u32, a: u32, b: u32) -> Numbers
+    ensures { λ n. ⌜ n ≡ numbers number a b ⌝ }
+{
+    Numbers { number, a, b }
+}
+
+// The numbers of an answer.
+pub fn numbers_of(r: Answer) -> Numbers
+    ensures { λ n. ⌜ n ≡ numbersOf r ⌝ }
+{
+    match r {
+        Answer::NoFault => row(0, 0, 0),
+        Answer::Accepted { triggers } => row(0, triggers, 0),
+        Answer::Translated {
+            words,
+            alternatives,
+        } => row(0, words, alternatives),
+        Answer::BookLength => row(1, 0, 0),
+        Answer::BookHeader { word } => row(2, word, 0),
+        Answer::BookEnd => row(3, 0, 0),
+        Answer::BookRecord { table, record } => row(4, table, record),
+        Answer::PlanLength => row(5, 0, 0),
+        Answer::PlanHeader { word } => row(6, word, 0),
+        Answer::PlanEnd => row(7, 0, 0),
+        Answer::ValueUnknown { timeline, token } => row(8, timeline, token),
+        Answer::DurationOutside { timeline, token } => row(9, timeline, token),
+        Answer::NotSuccessor { timeline, token } => row(10, timeline, token),
+        Answer::PastLastTick { timeline, token } => row(11, timeline, token),
+        Answer::RuleNotMet { rule, token } => row(12, rule, token),
+        Answer::TooManyAlternatives { rule } => row(13, rule, 0),
+        Answer::TooLong { table } => row(14, table, 0),
+        Answer::RoomTooShort { words } => row(15, words, 0),
+        Answer::TooManyAtoms { rule } => row(16, rule, 0),
+        Answer::NoSuchTimeline => row(17, 0, 0),
+    }
+}

@@ -1,0 +1,26 @@
+-- `book::fifth_wrong` meets its contract: an atom's or a constraint's tests, at its owners. Assumes nothing.
+use native.Mathlib.Nat.{add-zero}
+use borrow.Author.Needs.{needs}
+use borrow.Author.Tests.{eq-eqb, ne-eqb}
+use Rattle.book.specs.Wrong.{fifthTests, fifthTestsOf, recordWrong}
+use Rattle.book.proofs.fifth_wrong.Statement.{statement}
+use Rattle.book.proofs.fifth_wrong.Tie as tie
+
+pub fifth-wrong-spec : {M : Type 1} → statement M
+unfolding recordWrong fifthTests fifthTestsOf
+fifth-wrong-spec =
+    tie.close
+    (tie.spec
+    (λ c κs. search needs)
+    (λ c. search needs)
+    (λ c. search needs)
+    (λ c. search needs)
+    (λ c κs. search needs)
+    (λ c κs. search needs)
+    (λ c. search needs)
+    (λ c. search needs)
+    (λ c κs. search needs)
+    (λ c κs. search needs)
+    (λ c κs. search needs)
+    (λ c. simp (eq-eqb _ _ (c .before .if1 .taken), add-zero) (cc))
+    (λ c. simp (ne-eqb _ _ (c .before .if1 .left), add-zero) (cc)))

@@ -1,0 +1,39 @@
+-- `book::first_fifth` meets its contract. The loop's invariant: no record before i is wrong, no alternative before a has record i, and no
+-- rule before r has alternative a. Assumes nothing.
+use mathlib.Core.Path.{refl}
+use Prim.Native.Nat.{_-_, _≤_}
+use native.Mathlib.Omega.{arith}
+use borrow.Author.Needs.{needs}
+use Rattle.words.specs.Least.{Clear, clear-more, least-at, scan}
+use Rattle.book.specs.Wrong.{recordWrong}
+use Rattle.book.specs.Owner.{Cursor, cursors}
+use Rattle.book.proofs.Bounds.{scaled, placed}
+use Rattle.book.proofs.first_fifth.Statement.{statement}
+use Rattle.book.proofs.first_fifth.Tie as tie
+
+abbrev Inv-loop : tie.InvT-loop
+Inv-loop b e n base w a₀ r₀ i₀ a r i = (i ≤ n) × Clear (recordWrong e b 5) i × Cursor e b 3 2 i a × Cursor e b 2 2 a r
+
+abbrev μ-loop : tie.MeasureT-loop
+μ-loop b e n base w a₀ r₀ i₀ a r i = n - i
+
+pub first-fifth-spec : {M : Type 1} → statement M
+first-fifth-spec =
+    tie.close
+    (tie.spec
+    Inv-loop
+    μ-loop
+    (λ c κs. search needs)
+    (λ c κs. search needs)
+    (λ c κs. search needs)
+    (λ c. search (needs, scan, cursors))
+    (λ c κs. search (needs, cursors))
+    (λ c κs. search (needs, cursors))
+    (λ c. omega (arith, scaled (c .before .before .before .loop .i) _ (omega arith) (c .before .before .before .before .fifth-width .ensures .1)))
+    (λ c. omega (arith, scaled (c .before .before .before .loop .i) _ (omega arith) (c .before .before .before .before .fifth-width .ensures .1)))
+    (λ c κs. (placed (omega arith) (c .before .before .before .before .before .offset-of .ensures) (c .before .before .before .before .fifth-width .ensures), search needs, search needs, search needs, search needs))
+    (λ c. (least-at _ _ _ (c .before .before .before .before .before .loop .inv .1) (omega arith) (cc), omega arith))
+    (λ c. search needs)
+    (λ c. search needs)
+    (λ c. (search needs, clear-more _ _ (c .before .before .before .before .before .loop .inv .1) (cc), search cursors, search cursors))
+    (λ c. search (needs, scan)))

@@ -1,0 +1,34 @@
+-- `book::first_plain` meets its contract. The loop's invariant: no record before i is wrong. Assumes nothing.
+use Prim.Native.Nat.{_-_, _≤_}
+use native.Mathlib.Omega.{arith}
+use borrow.Author.Needs.{needs}
+use Rattle.words.specs.Least.{Clear, clear-more, least-at, scan}
+use Rattle.book.specs.Wrong.{recordWrong}
+use Rattle.book.proofs.Bounds.{scaled, placed}
+use Rattle.book.proofs.first_plain.Statement.{statement}
+use Rattle.book.proofs.first_plain.Tie as tie
+
+abbrev Inv-loop : tie.InvT-loop
+Inv-loop b e t n base w i₀ i = (i ≤ n) × Clear (recordWrong e b t) i
+
+abbrev μ-loop : tie.MeasureT-loop
+μ-loop b e t n base w i₀ i = n - i
+
+pub first-plain-spec : {M : Type 1} → statement M
+first-plain-spec =
+    tie.close
+    (tie.spec
+    Inv-loop
+    μ-loop
+    (λ c κs. search needs)
+    (λ c κs. search needs)
+    (λ c κs. search needs)
+    (λ c. search (needs, scan))
+    (λ c. omega (arith, scaled (c .before .loop .i) _ (omega arith) (c .before .before .width-of .ensures .1)))
+    (λ c. omega (arith, scaled (c .before .loop .i) _ (omega arith) (c .before .before .width-of .ensures .1)))
+    (λ c κs. (search needs, search needs, placed (omega arith) (c .before .before .before .offset-of .ensures) (c .before .before .width-of .ensures)))
+    (λ c. (least-at _ _ _ (c .before .before .before .loop .inv .1) (omega arith) (cc), omega arith))
+    (λ c. search needs)
+    (λ c. search needs)
+    (λ c. (search needs, clear-more _ _ (c .before .before .before .loop .inv .1) (cc)))
+    (λ c. search (needs, scan)))

@@ -1,0 +1,37 @@
+-- `book::first_value` meets its contract. The loop's invariant: no value before i is wrong, and no variable before v has value i.
+-- Assumes nothing.
+use mathlib.Core.Path.{refl}
+use Prim.Native.Nat.{_-_, _≤_}
+use native.Mathlib.Omega.{arith}
+use borrow.Author.Needs.{needs}
+use Rattle.words.specs.Least.{Clear, clear-more, least-at, scan}
+use Rattle.book.specs.Wrong.{recordWrong}
+use Rattle.book.specs.Owner.{Cursor, cursors}
+use Rattle.book.proofs.Bounds.{placed}
+use Rattle.book.proofs.first_value.Statement.{statement}
+use Rattle.book.proofs.first_value.Tie as tie
+
+abbrev Inv-loop : tie.InvT-loop
+Inv-loop b e n base v₀ i₀ v i = (i ≤ n) × Clear (recordWrong e b 1) i × Cursor e b 0 0 i v
+
+abbrev μ-loop : tie.MeasureT-loop
+μ-loop b e n base v₀ i₀ v i = n - i
+
+pub first-value-spec : {M : Type 1} → statement M
+first-value-spec =
+    tie.close
+    (tie.spec
+    Inv-loop
+    μ-loop
+    (λ c κs. search needs)
+    (λ c κs. search needs)
+    (λ c. search (needs, scan, cursors))
+    (λ c κs. search (needs, cursors))
+    (λ c. search needs)
+    (λ c. search needs)
+    (λ c κs. (placed (omega arith) (c .before .before .before .offset-of .ensures) (refl, omega arith), search needs, search needs))
+    (λ c. (least-at _ _ _ (c .before .before .before .before .loop .inv .1) (omega arith) (cc), omega arith))
+    (λ c. search needs)
+    (λ c. search needs)
+    (λ c. (search needs, clear-more _ _ (c .before .before .before .before .loop .inv .1) (cc), search cursors))
+    (λ c. search (needs, scan)))

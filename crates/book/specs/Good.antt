@@ -1,0 +1,144 @@
+-- What a good book is, said of all indexes, and that `bookFault` is 0 0 0 for just those books. Assumes nothing.
+use mathlib.Core.Path.{_≡_, refl, sym, ap}
+use mathlib.Core.Bool.{Bool, true, false, _||_, _&&_, not, cond, true≢false, false≢true}
+use mathlib.Core.Logic.{_↔_}
+use mathlib.Core.List.{List, [], _∷_}
+use Prim.Native.Nat.{ℕ, zero, suc, _≤_, _<_}
+use native.Mathlib.Omega.{arith}
+use lib.Dec.{ltb, leb, eqb}
+use lib.ListN.{length, getD}
+use borrow.Author.Tests.{ltb-false, le-ltb, leb-true, leb-false, le-leb, lt-leb, eqb-true, eqb-false, eq-eqb, ne-eqb}
+use Rattle.answers.specs.declared.Numbers.{Numbers}
+use Rattle.answers.specs.Numbers.{numbers, noFault, orElse}
+use Rattle.words.specs.Least.{least, Clear, least-law, least-end}
+use Rattle.book.specs.Layout.{count, ending, headerWrong}
+use Rattle.book.specs.Wrong.{someWrong, recordTests, recordWrong, leaves, tableWrong}
+use Rattle.book.specs.Fault.{lengthFault, headerFault, endFault, recordFault, bookFault}
+
+-- every header word is right, every word of every record is right, and every next table is used up
+pub record Good (e : ℕ) (b : List ℕ) : Type 0 where
+  pub long : 14 ≤ length b
+  pub short : length b ≤ 16384
+  pub header : (k : ℕ) → k < 14 → headerWrong e b k ≡ false
+  pub whole : ending e b 5 ≡ length b
+  pub words : (t : ℕ) → t < 6 → (i : ℕ) → i < count b t → (j : ℕ) → getD (recordTests e b t i) j false ≡ false
+  pub used : (t : ℕ) → t < 6 → leaves e b t ≡ false
+
+-- ---- laws of tests that say what is wrong
+
+-- one or the other is wrong: neither is
+pub or-right : (a c : Bool) → ((a || c) ≡ false) ↔ ((a ≡ false) × (c ≡ false))
+or-right true c = (λ h. absurd (true≢false h), λ p. p .0)
+or-right false c = (λ h. (refl, h), λ p. p .1)
+
+-- one and the other is wrong: where the one is, the other is not
+pub and-right : (a c : Bool) → ((a && c) ≡ false) ↔ (a ≡ true → c ≡ false)
+and-right true c = (λ h q. h, λ h. h refl)
+and-right false c = (λ h q. absurd (false≢true q), λ h. refl)
+
+-- a test the other way round
+pub not-right : (t : Bool) → (not t ≡ false) ↔ (t ≡ true)
+not-right true = (λ h. refl, λ h. refl)
+not-right false = (λ h. sym h, λ h. sym h)
+
+pub not-so : (t : Bool) → (not t ≡ true) ↔ (t ≡ false)
+not-so true = (λ h. sym h, λ h. sym h)
+not-so false = (λ h. refl, λ h. refl)
+
+-- at most, and equal, told by numbers
+pub le-right : (x y : ℕ) → (leb x y ≡ false) ↔ (y < x)
+le-right x y = (leb-false x y, lt-leb x y)
+
+pub le-so : (x y : ℕ) → (leb x y ≡ true) ↔ (x ≤ y)
+le-so x y = (leb-true x y, le-leb x y)
+
+pub eq-right : (x y : ℕ) → (eqb x y ≡ false) ↔ (x ≡ y → ⊥)
+eq-right x y = (eqb-false x y, ne-eqb x y)
+
+pub eq-so : (x y : ℕ) → (eqb x y ≡ true) ↔ (x ≡ y)
+eq-so x y = (eqb-true x y, eq-eqb x y)
+
+-- all of them: `simp plain` says in numbers what a test says
+pub ruleset plain = (or-right, and-right, not-right, not-so, le-right, le-so, eq-right, eq-so)
+
+-- some word is wrong: none is
+pub words-right : (ws : List Bool) → (someWrong ws ≡ false) ↔ ((j : ℕ) → getD ws j false ≡ false)
+words-right [] = (λ h j. refl, λ h. refl)
+words-right (w ∷ []) = (λ h. elim [ zero ↦ h | suc j ↦ refl ], λ h. h 0)
+words-right (w ∷ (v ∷ ws)) = (
+  λ h. let p = or-right w _ .0 h in elim [ zero ↦ p .0 | suc j ↦ words-right (v ∷ ws) .0 (p .1) j ],
+  λ h. or-right w _ .1 (h 0, words-right (v ∷ ws) .1 (λ j. h (suc j))),
+)
+
+-- the lowest that is wrong is not below n: none below n is
+none-below : (n : ℕ) (p : ℕ → Bool) → (ltb (least n p) n ≡ false) ↔ Clear p n
+none-below n p = (
+  λ h k l. least-law n p .clear k (omega (arith, ltb-false (least n p) n h)),
+  λ h. le-ltb (least n p) n (omega (arith, least-end n p n h (omega arith) (omega arith))),
+)
+
+-- every record of table t is right, and the next table is used up
+table-right : (e : ℕ) (b : List ℕ) (t : ℕ)
+    → (tableWrong e b t ≡ false)
+    ↔ (((i : ℕ) → i < count b t → (j : ℕ) → getD (recordTests e b t i) j false ≡ false) × (leaves e b t ≡ false))
+unfolding tableWrong recordWrong
+table-right e b t = simp (or-right, none-below, words-right) (λ h. h, λ h. h)
+
+-- ---- laws of the stages of `bookFault`
+
+-- an answer with the number 0 is not this stage's fault
+stage : (t : Bool) (n x y : ℕ) → cond t (numbers (suc n) x y) noFault .number ≡ 0 → t ≡ false
+stage true n x y h = absurd (omega arith)
+stage false n x y h = refl
+
+-- the same of the stage that asks for an end
+ended : (t : Bool) → cond t noFault (numbers 3 0 0) .number ≡ 0 → t ≡ true
+ended true h = refl
+ended false h = absurd (omega arith)
+
+-- and of a stage with those after it: neither found a fault
+both : (t : Bool) (x y : Numbers) → eqb (x .number) 0 ≡ t → cond t y x .number ≡ 0 → (x .number ≡ 0) × (y .number ≡ 0)
+both true x y e h = (eqb-true _ _ e, h)
+both false x y e h = absurd (eqb-false _ _ e h)
+
+stages : (x y : Numbers) → orElse x y .number ≡ 0 → (x .number ≡ 0) × (y .number ≡ 0)
+unfolding orElse
+stages x y h = both (eqb (x .number) 0) x y refl h
+
+-- a book with the answer number 0 is good
+good-number : (e : ℕ) (b : List ℕ) → bookFault e b .number ≡ 0 → Good e b
+unfolding bookFault lengthFault headerFault endFault recordFault
+good-number e b h =
+    let s1 = stages _ _ h in
+    let s2 = stages _ _ (s1 .1) in
+    let s3 = stages _ _ (s2 .1) in
+    let size = or-right _ _ .0 (stage _ 0 0 0 (s1 .0)) in
+    let tables = none-below 6 (tableWrong e b) .0 (stage _ 3 _ _ (s3 .1)) in
+    record {
+      long = ltb-false (length b) 14 (size .0);
+      short = ltb-false 16384 (length b) (size .1);
+      header = none-below 14 (headerWrong e b) .0 (stage _ 1 _ _ (s2 .0));
+      whole = eqb-true _ _ (ended _ (s3 .0));
+      words = λ t l. table-right e b t .0 (tables t l) .0;
+      used = λ t l. table-right e b t .0 (tables t l) .1;
+    }
+
+-- THE LAWS: a good book has the answer 0 0 0
+pub good-back : (e : ℕ) (b : List ℕ) → Good e b → bookFault e b ≡ noFault
+unfolding bookFault lengthFault headerFault endFault recordFault orElse
+good-back e b g =
+    simp (
+      le-ltb (length b) 14 (g .long),
+      le-ltb 16384 (length b) (g .short),
+      none-below 14 (headerWrong e b) .1 (g .header),
+      eq-eqb (ending e b 5) (length b) (g .whole),
+      none-below 6 (tableWrong e b) .1 (λ t l. table-right e b t .1 (g .words t l, g .used t l)),
+    )
+
+-- and only a good one
+pub good : (e : ℕ) (b : List ℕ) → bookFault e b ≡ noFault → Good e b
+good e b h = good-number e b (ap (λ (n : Numbers). n .number) h)
+
+-- with the number 0 the other two numbers are 0 too
+pub no-number : (e : ℕ) (b : List ℕ) → bookFault e b .number ≡ 0 → bookFault e b ≡ noFault
+no-number e b h = good-back e b (good-number e b h)

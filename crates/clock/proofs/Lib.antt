@@ -1,0 +1,2 @@
+-- The laws of `clock`, for the proofs of this crate and of those that link it.
+pub mod Laws
