@@ -1,19 +1,24 @@
--- Facts on widths and bounds, shown once for any table and edition. Assumes nothing.
+-- Facts on widths and places, shown once for any table and edition. Assumes nothing.
 use mathlib.Core.Path.{_≡_, refl}
 use mathlib.Core.List.{List, [], _∷_}
-use Prim.Native.Nat.{ℕ, zero, suc, _+_, _*_, _^_, _≤_, _<_}
-use native.Mathlib.Nat.{mul-le-mul-left}
+use Prim.Native.Nat.{ℕ, zero, suc, _+_, _-_, _*_, _^_, _≤_, _<_}
+use native.Mathlib.Nat.{mul-le-mul-left, mul-le-mul-right, add-mul}
 use native.Mathlib.Omega.{arith}
-use lib.ListN.{getD}
-use Rattle.book.specs.Layout.{width, offset}
-use Rattle.book.specs.Owner.{Place}
+use lib.ListN.{length, getD}
+use borrow.Author.Tests.{eqb-true, not-false, eq-eqb, ne-eqb}
+use Rattle.words.specs.Least.{Clear, least-law}
+use Rattle.book.specs.Layout.{fifthWidth, width, count, offset, ending, begins, headerWrong, recordAt}
+use Rattle.book.specs.Fault.{firstHeader}
+use Rattle.book.specs.Owner.{Within, Place}
+use Rattle.book.specs.Sound.{tables}
 
 -- a word times the words of a record
 pub scaled : (a w : ℕ) → a < 2 ^ 32 → w < 8 → a * w ≤ 2 ^ 35
 scaled a w ha hw = let h : a * w ≤ a * 8 = mul-le-mul-left a (omega arith) in omega arith
 
 -- the widths but the last do not depend on the edition
-pub plain-width : (e t f : ℕ) → (t ≡ 5 → ⊥) → (getD (2 ∷ 3 ∷ 4 ∷ 4 ∷ 2 ∷ f ∷ []) t 0 ≡ width e t) × (getD (2 ∷ 3 ∷ 4 ∷ 4 ∷ 2 ∷ f ∷ []) t 0 < 8)
+pub plain-width : (e t f : ℕ) → (t ≡ 5 → ⊥)
+    → (getD (2 ∷ 3 ∷ 4 ∷ 4 ∷ 2 ∷ f ∷ []) t 0 ≡ width e t) × (getD (2 ∷ 3 ∷ 4 ∷ 4 ∷ 2 ∷ f ∷ []) t 0 < 8)
 plain-width e zero f h = (refl, omega arith)
 plain-width e (suc zero) f h = (refl, omega arith)
 plain-width e (suc (suc zero)) f h = (refl, omega arith)
@@ -22,6 +27,44 @@ plain-width e (suc (suc (suc (suc zero)))) f h = (refl, omega arith)
 plain-width e (suc (suc (suc (suc (suc zero))))) f h = absurd (h refl)
 plain-width e (suc (suc (suc (suc (suc (suc t)))))) f h = (refl, omega arith)
 
+-- i records and one more
+one-more : (i w : ℕ) → (i + 1) * w ≡ i * w + w
+one-more i w = omega (arith, add-mul i 1 w)
+
 -- the place of record i, as a loop has it from its table's offset and width
-pub placed : {e : ℕ} {b : List ℕ} {t i o w : ℕ} → i < 2 ^ 32 → (o ≡ offset b t) × (o < 2 ^ 32) → (w ≡ width e t) × (w < 8) → Place e b t i (o + i * w)
-placed {i = i} {w = w} l (ho, lo) (hw, lw) = record { low = l; here = cc; near = omega (arith, scaled i w l lw) }
+pub placed : {e : ℕ} {b : List ℕ} {t i n o w : ℕ} → i < n → n ≡ count b t → o ≡ offset b t → w ≡ width e t
+    → ending e b t ≤ length b → Place e b t i (o + i * w)
+placed {e} {b} {t} {i} {n} {o} {w} l hn ho hw h =
+    let m : (i + 1) * w ≤ n * w = mul-le-mul-right w (omega arith) in
+    let p : n * w ≡ count b t * width e t = cc in
+    record { here = cc; inside = omega (arith, one-more i w) }
+
+-- the place of the record before
+pub place-before : (e : ℕ) (b : List ℕ) (t i at : ℕ) → at ≡ recordAt e b t i → (i ≡ 0 → ⊥)
+    → (width e t ≤ at) × (at - width e t ≡ recordAt e b t (i - 1))
+place-before e b t i at h z =
+    let p : i - 1 + 1 ≡ i = omega arith in
+    let q : (i - 1 + 1) * width e t ≡ i * width e t = cc in
+    (omega (arith, one-more (i - 1) (width e t)), omega (arith, one-more (i - 1) (width e t)))
+
+-- a record of table 5 is a constraint or an atom
+pub three-wide : {e : ℕ} → e ≡ 2 → fifthWidth e ≡ 3
+unfolding fifthWidth
+three-wide h = simp (eq-eqb _ _ h)
+
+pub six-wide : {e : ℕ} → (e ≡ 2 → ⊥) → fifthWidth e ≡ 6
+unfolding fifthWidth
+six-wide h = simp (ne-eqb _ _ h)
+
+-- where the header is right and table 5 ends at the length, every table ends in the book
+pub all-within : (e : ℕ) (b : List ℕ) (k : ℕ) → k ≡ firstHeader e b → 14 ≤ k → ending e b 5 ≡ length b → Within e b
+unfolding headerWrong begins
+all-within e b k h l end =
+    let p = least-law 14 (headerWrong e b) in
+    let clear : Clear (headerWrong e b) 14 = λ i m. p .clear i (omega arith) in
+    let o1 : offset b 1 ≡ ending e b 0 = eqb-true _ _ (not-false _ (clear 5 (omega arith))) in
+    let o2 : offset b 2 ≡ ending e b 1 = eqb-true _ _ (not-false _ (clear 7 (omega arith))) in
+    let o3 : offset b 3 ≡ ending e b 2 = eqb-true _ _ (not-false _ (clear 9 (omega arith))) in
+    let o4 : offset b 4 ≡ ending e b 3 = eqb-true _ _ (not-false _ (clear 11 (omega arith))) in
+    let o5 : offset b 5 ≡ ending e b 4 = eqb-true _ _ (not-false _ (clear 13 (omega arith))) in
+    tables (λ t. ending e b t ≤ length b) (omega arith) (omega arith) (omega arith) (omega arith) (omega arith) (omega arith)

@@ -1,18 +1,22 @@
--- A cursor over a table's ranges that only moves forward: what an owner is looked for from.
-use mathlib.Core.Path.{_≡_, sym}
-use mathlib.Core.Bool.{Bool}
+-- What the code goes by: tables and records that lie in the book, and a cursor over a table's ranges that only moves forward, from which
+-- an owner is looked for. Assumes nothing.
+use mathlib.Core.Path.{_≡_}
 use mathlib.Core.List.{List}
-use Prim.Native.Nat.{ℕ, _+_, _^_, _≤_, _<_}
+use Prim.Native.Nat.{ℕ, _+_, _≤_, _<_}
 use native.Mathlib.Omega.{arith}
+use lib.ListN.{length}
 use borrow.Author.Tests.{le-ltb, ltb-false}
 use Rattle.words.specs.Least.{Clear, clear-none, least-law, least-ge}
-use Rattle.book.specs.Layout.{count, recordAt, ends, reaches, owner}
+use Rattle.book.specs.Layout.{width, count, ending, recordAt, ends, reaches, owner}
 
--- `at` is the place of record i of table t, near enough to the start that no place of the record wraps
+-- every table ends in the book
+abbrev pub Within : ℕ → List ℕ → Type 0
+Within e b = (t : ℕ) → t < 6 → ending e b t ≤ length b
+
+-- `at` is the place of record i of table t, and the record ends in the book
 pub record Place (e : ℕ) (b : List ℕ) (t i at : ℕ) : Type 0 where
-  pub low : i < 2 ^ 32
   pub here : at ≡ recordAt e b t i
-  pub near : at < 2 ^ 40
+  pub inside : at + width e t ≤ length b
 
 -- the record v is in table t, or its count, and number i is in no range before it
 pub record Cursor (e : ℕ) (b : List ℕ) (t j i v : ℕ) : Type 0 where

@@ -1,32 +1,36 @@
-// The layout of a book and of a sheet, and answers 1 to 4. A sheet has edition 2; what differs by it is table 5.
+// Whether a book or a sheet is sound: answers 1 to 4. Both have one layout, with the edition e, 1 or 2; what differs by it is
+// table 5. The header is read by place and is 0 past the end. Once it is known to be right, the tables lie in the book, and
+// their records are read without a test for the end.
 ghost use mathlib.Core.Path.{_≡_};
-ghost use mathlib.Core.Bool.{_||_, _&&_, not};
+ghost use mathlib.Core.Bool.{_||_};
 ghost use Prim.Native.Nat.{_+_, _*_, _<_, _≤_, _^_};
-ghost use lib.Dec.{ltb, leb, eqb};
+ghost use lib.Dec.{ltb};
+ghost use lib.ListN.{length};
 ghost use Rattle.answers.specs.Numbers.{numbersOf};
 ghost use Rattle.words.specs.Words.{word};
-ghost use Rattle.words.specs.Least.{least};
-ghost use Rattle.book.specs.Layout.{fifthWidth, fifthMost, fewest, most, width, count, offset, ending, begins, headerWrong, starts, ends, unused, owner};
-ghost use Rattle.book.specs.Wrong.{someWrong, startWrong, lowerWrong, upperWrong, setWrong, variableUnknown, triggerVariableWrong, tokenWrong, argumentWrong, atomTests, constraintTests, recordWrong, leaves, lowest, tableWrong};
+ghost use Rattle.book.specs.Layout.{fifthWidth, fifthMost, fewest, most, width, count, offset, ending, begins, headerWrong, recordAt, starts, unused, owner};
+ghost use Rattle.book.specs.Wrong.{someWrong, lowerWrong, upperWrong, setWrong, tokenWrong, argumentWrong, atomTests, constraintTests, recordWrong, leaves, lowest, tableWrong};
 ghost use Rattle.book.specs.Fault.{firstHeader, firstTable, bookFault};
-ghost use Rattle.book.specs.Owner.{Place, Cursor};
-
+ghost use Rattle.book.specs.Owner.{Within, Place, Cursor};
 use answers::Answer;
 use clock::Time;
 use words::number_at;
 
-// The least count of each table, the greatest, and the words of a record.
+// Of each table the least count, the greatest, and the words of a record.
 const FEWEST: [usize; 6] = [1, 1, 0, 0, 0, 0];
+
 const MOST: [usize; 6] = [16, 512, 64, 1024, 2048, 2048];
+
 const WIDTHS: [usize; 6] = [2, 3, 4, 4, 2, 6];
 
 // The time's marks, to be held against words.
 const LAST_TICK: usize = Time::LAST_TICK as usize;
+
 const NO_LIMIT: usize = Time::NO_LIMIT as usize;
 
 // ---- the header
 
-// The words of a record of table 5: an atom, or a sheet's constraint.
+// The words of a record of table 5: an atom in a book, a constraint in a sheet.
 fn fifth_width(e: usize) -> usize
     ensures { λ r. ⌜ (r ≡ fifthWidth e) × (r < 8) ⌝ }
 {
@@ -134,35 +138,50 @@ fn first_header(b: &[u32], e: usize) -> usize
 
 // ---- ranges
 
-// Where the range at word j of the record at a place ends.
-fn range_end(b: &[u32], at: usize, j: usize) -> usize
-    requires { ⌜ (at < 2 ^ 40) × (j < 7) ⌝ }
-    ensures { λ r. ⌜ r ≡ word (now (b .entry)) (at + j) + word (now (b .entry)) (at + (j + 1)) ⌝ }
+// A word as a number.
+fn wide(x: u32) -> usize
+    ensures { λ r. ⌜ (r ≡ x) × (r < 2 ^ 32) ⌝ }
 {
-    number_at(b, at + j) + number_at(b, at + (j + 1))
+    x as usize
 }
 
-// Where the range at word j of record i of table t has to start: at 0, or where that of the record before ends.
-fn starts_of(b: &[u32], e: usize, t: usize, j: usize, i: usize) -> usize
-    requires { ⌜ (t < 6) × (j < 7) × (i < 2 ^ 32) ⌝ }
+// The word at a place that lies in the book.
+fn read(b: &[u32], at: usize) -> usize
+    requires { ⌜ at < length (now b) ⌝ }
+    ensures { λ r. ⌜ (r ≡ word (now (b .entry)) at) × (r < 2 ^ 32) ⌝ }
+{
+    wide(b[at])
+}
+
+// Where the range at word j of the record at a place ends.
+fn range_end(b: &[u32], at: usize, j: usize) -> usize
+    requires { ⌜ at + (j + 1) < length (now b) ⌝ }
+    ensures { λ r. ⌜ r ≡ word (now (b .entry)) (at + j) + word (now (b .entry)) (at + (j + 1)) ⌝ }
+{
+    read(b, at + j) + read(b, at + (j + 1))
+}
+
+// Where the range at word j of record i of table t has to start: at 0, or where that of the record before ends. It is asked
+// for the count too, whose place is the table's end.
+fn starts_of(b: &[u32], e: usize, t: usize, j: usize, i: usize, at: usize) -> usize
+    requires { ⌜ (t < 6) × (j + 2 ≤ width e t) × (at ≡ recordAt e (now b) t i) × (at ≤ length (now b)) ⌝ }
     ensures { λ r. ⌜ r ≡ starts e (now (b .entry)) t j i ⌝ }
 {
     if i == 0 {
         return 0;
     }
-    let at = offset_of(b, t) + (i - 1) * width_of(e, t);
-    range_end(b, at, j)
+    range_end(b, at - width_of(e, t), j)
 }
 
 // Whether the ranges at word j of table t do not use up the table `into`.
 fn unused_of(b: &[u32], e: usize, t: usize, j: usize, into: usize) -> bool
-    requires { ⌜ (t < 6) × (j < 7) × (into < 6) ⌝ }
+    requires { ⌜ (t < 6) × (j + 2 ≤ width e t) × (into < 6) × (ending e (now b) t ≤ length (now b)) ⌝ }
     ensures { λ r. ⌜ r ≡ unused e (now (b .entry)) t j into ⌝ }
 {
-    starts_of(b, e, t, j, count_of(b, t)) != count_of(b, into)
+    starts_of(b, e, t, j, count_of(b, t), ending_of(b, e, t)) != count_of(b, into)
 }
 
-// Whether a range has not lo..hi records, or runs past the n records that there are.
+// Whether a range has not lo..hi records, or runs past the n that there are.
 fn number_wrong(first: usize, number: usize, lo: usize, hi: usize, n: usize) -> bool
     requires { ⌜ (first < 2 ^ 32) × (number < 2 ^ 32) ⌝ }
     ensures { λ r. ⌜ r ≡ ((ltb number lo || ltb hi number) || ltb n (first + number)) ⌝ }
@@ -170,9 +189,10 @@ fn number_wrong(first: usize, number: usize, lo: usize, hi: usize, n: usize) -> 
     ((number < lo) | (number > hi)) | (first + number > n)
 }
 
-// The record of table t in whose range at word j the number i is, given that it is in none before `from`.
+// The record of table t in whose range at word j the number i lies, or the count. It lies in none before `from`, so that a
+// caller who goes through the numbers in order never looks back.
 fn owner_from(b: &[u32], e: usize, t: usize, j: usize, i: usize, from: usize) -> usize
-    requires { ⌜ (t < 6) × (j < 7) × Cursor e (now b) t j i from ⌝ }
+    requires { ⌜ (t < 6) × (j + 2 ≤ width e t) × (ending e (now b) t ≤ length (now b)) × Cursor e (now b) t j i from ⌝ }
     ensures { λ r. ⌜ (r ≡ owner e (now (b .entry)) t j i) × (r < 2 ^ 32) ⌝ }
 {
     let n = count_of(b, t);
@@ -204,7 +224,7 @@ fn upper_wrong(x: usize, y: usize) -> bool
     (y < x) | ((y > LAST_TICK) & (y != NO_LIMIT))
 }
 
-// Whether a set has a bit at or above n.
+// Whether a set has a bit at or above n; a word has none from 32 on.
 fn set_wrong(set: usize, n: usize) -> bool
     requires { ⌜ set < 2 ^ 32 ⌝ }
     ensures { λ r. ⌜ r ≡ setWrong set n ⌝ }
@@ -212,7 +232,7 @@ fn set_wrong(set: usize, n: usize) -> bool
     if n < 32 { (1 << n) <= set } else { false }
 }
 
-// How many values variable v has; 0 where its record is past the end.
+// How many values variable v has. Any word may stand for v: past the end it has none.
 fn values_of(b: &[u32], v: usize) -> usize
     requires { ⌜ v < 2 ^ 32 ⌝ }
     ensures { λ r. ⌜ r ≡ word (now (b .entry)) (offset (now (b .entry)) 0 + v * 2 + 1) ⌝ }
@@ -227,101 +247,102 @@ fn token_wrong(n: usize, trigger: bool, x: usize) -> bool
     (x > n) | ((x == 0) & !trigger)
 }
 
-// Whether x is no argument of a term of that kind.
+// Whether x is no argument for a term of this kind: a time point, or a token.
 fn argument_wrong(n: usize, trigger: bool, kind: usize, x: usize) -> bool
     ensures { λ r. ⌜ r ≡ argumentWrong n trigger kind x ⌝ }
 {
     ((kind == 2) & (x > LAST_TICK)) | ((kind < 2) & token_wrong(n, trigger, x))
 }
 
-// ---- tests of records
+// ---- tests of records, at their place: one test for each word in turn, all of them made
 
-// Whether record i of table 0, at a place, is wrong.
+// Whether record i of table 0 is wrong.
 fn variable_wrong(b: &[u32], e: usize, i: usize, at: usize) -> bool
     requires { ⌜ Place e (now b) 0 i at ⌝ }
     ensures { λ r. ⌜ r ≡ recordWrong e (now (b .entry)) 0 i ⌝ }
 {
-    let first = number_at(b, at);
-    let number = number_at(b, at + 1);
-    (first != starts_of(b, e, 0, 0, i)) | number_wrong(first, number, 1, 32, count_of(b, 1))
+    let first = read(b, at);
+    let number = read(b, at + 1);
+    (first != starts_of(b, e, 0, 0, i, at)) | number_wrong(first, number, 1, 32, count_of(b, 1))
 }
 
-// Whether record i of table 1, at a place, is wrong; v is its variable.
+// Whether record i of table 1 is wrong; v is its variable.
 fn value_wrong(b: &[u32], e: usize, i: usize, at: usize, v: usize) -> bool
     requires { ⌜ Place e (now b) 1 i at × (v < 2 ^ 32) × (v ≡ owner e (now b) 0 0 i) ⌝ }
     ensures { λ r. ⌜ r ≡ recordWrong e (now (b .entry)) 1 i ⌝ }
 {
-    let least = number_at(b, at);
-    let greatest = number_at(b, at + 1);
-    let set = number_at(b, at + 2);
-    lower_wrong(1, least) | (upper_wrong(least, greatest) | set_wrong(set, values_of(b, v)))
+    let least = read(b, at);
+    let greatest = read(b, at + 1);
+    let set = read(b, at + 2);
+    let n = values_of(b, v);
+    lower_wrong(1, least) | (upper_wrong(least, greatest) | set_wrong(set, n))
 }
 
-// Whether record i of table 2, at a place, is wrong.
+// Whether record i of table 2 is wrong.
 fn rule_wrong(b: &[u32], e: usize, i: usize, at: usize) -> bool
     requires { ⌜ Place e (now b) 2 i at ⌝ }
     ensures { λ r. ⌜ r ≡ recordWrong e (now (b .entry)) 2 i ⌝ }
 {
-    let v = number_at(b, at);
-    let x = number_at(b, at + 1);
-    let first = number_at(b, at + 2);
-    let number = number_at(b, at + 3);
+    let v = read(b, at);
+    let x = read(b, at + 1);
+    let first = read(b, at + 2);
+    let number = read(b, at + 3);
     ((v != NO_LIMIT) & (v >= count_of(b, 0)))
         | ((((v == NO_LIMIT) & (x != 0)) | ((v != NO_LIMIT) & (x >= values_of(b, v))))
-            | ((first != starts_of(b, e, 2, 2, i))
+            | ((first != starts_of(b, e, 2, 2, i, at))
                 | number_wrong(first, number, 1, 64, count_of(b, 3))))
 }
 
-// Whether record i of table 3, at a place, is wrong.
+// Whether record i of table 3 is wrong.
 fn alternative_wrong(b: &[u32], e: usize, i: usize, at: usize) -> bool
     requires { ⌜ Place e (now b) 3 i at ⌝ }
     ensures { λ r. ⌜ r ≡ recordWrong e (now (b .entry)) 3 i ⌝ }
 {
-    let name = number_at(b, at);
-    let names = number_at(b, at + 1);
-    let ask = number_at(b, at + 2);
-    let asks = number_at(b, at + 3);
-    (name != starts_of(b, e, 3, 0, i))
+    let name = read(b, at);
+    let names = read(b, at + 1);
+    let ask = read(b, at + 2);
+    let asks = read(b, at + 3);
+    (name != starts_of(b, e, 3, 0, i, at))
         | (number_wrong(name, names, 0, 4, count_of(b, 4))
-            | ((ask != starts_of(b, e, 3, 2, i))
+            | ((ask != starts_of(b, e, 3, 2, i, at))
                 | number_wrong(ask, asks, 0, fifth_most(e), count_of(b, 5))))
 }
 
-// Whether record i of table 4, at a place, is wrong.
+// Whether record i of table 4 is wrong.
 fn name_wrong(b: &[u32], e: usize, i: usize, at: usize) -> bool
     requires { ⌜ Place e (now b) 4 i at ⌝ }
     ensures { λ r. ⌜ r ≡ recordWrong e (now (b .entry)) 4 i ⌝ }
 {
-    let v = number_at(b, at);
-    (v >= count_of(b, 0)) | (number_at(b, at + 1) >= values_of(b, v))
+    let v = read(b, at);
+    (v >= count_of(b, 0)) | (read(b, at + 1) >= values_of(b, v))
 }
 
-// Whether the atom at a place is wrong, in an alternative with n names.
+// Whether an atom is wrong, in an alternative with n names, whose rule has a trigger or not.
 fn atom_wrong(b: &[u32], at: usize, n: usize, trigger: bool) -> bool
-    requires { ⌜ at < 2 ^ 40 ⌝ }
+    requires { ⌜ at + 6 ≤ length (now b) ⌝ }
     ensures { λ r. ⌜ r ≡ someWrong (atomTests (now (b .entry)) at n trigger) ⌝ }
 {
-    let left = number_at(b, at);
-    let right = number_at(b, at + 2);
-    let lower = number_at(b, at + 4);
+    let left = read(b, at);
+    let right = read(b, at + 2);
+    let lower = read(b, at + 4);
     (left > 2)
-        | (argument_wrong(n, trigger, left, number_at(b, at + 1))
+        | (argument_wrong(n, trigger, left, read(b, at + 1))
             | ((right > 2)
-                | (argument_wrong(n, trigger, right, number_at(b, at + 3))
-                    | (lower_wrong(0, lower) | upper_wrong(lower, number_at(b, at + 5))))))
+                | (argument_wrong(n, trigger, right, read(b, at + 3))
+                    | (lower_wrong(0, lower) | upper_wrong(lower, read(b, at + 5))))))
 }
 
-// Whether the constraint at a place is wrong, in an alternative with n names.
+// Whether a constraint is wrong, in an alternative with n names, whose rule has a trigger or not.
 fn constraint_wrong(b: &[u32], at: usize, n: usize, trigger: bool) -> bool
-    requires { ⌜ at < 2 ^ 40 ⌝ }
+    requires { ⌜ at + 3 ≤ length (now b) ⌝ }
     ensures { λ r. ⌜ r ≡ someWrong (constraintTests (now (b .entry)) at n trigger) ⌝ }
 {
-    let set = number_at(b, at + 2);
-    token_wrong(n, trigger, number_at(b, at))
-        | (token_wrong(n, trigger, number_at(b, at + 1)) | ((set < 1) | (set > 8191)))
+    let set = read(b, at + 2);
+    token_wrong(n, trigger, read(b, at))
+        | (token_wrong(n, trigger, read(b, at + 1)) | ((set < 1) | (set > 8191)))
 }
 
-// Whether record i of table 5, at a place, is wrong; a is its alternative, and r that one's rule.
+// Whether record i of table 5 is wrong; a is its alternative, and r that one's rule.
 fn fifth_wrong(b: &[u32], e: usize, i: usize, at: usize, a: usize, r: usize) -> bool
     requires { ⌜ Place e (now b) 5 i at × (a < 2 ^ 32) × (r < 2 ^ 32) × (a ≡ owner e (now b) 3 2 i) × (r ≡ owner e (now b) 2 2 a) ⌝ }
     ensures { λ w. ⌜ w ≡ recordWrong e (now (b .entry)) 5 i ⌝ }
@@ -335,7 +356,7 @@ fn fifth_wrong(b: &[u32], e: usize, i: usize, at: usize, a: usize, r: usize) -> 
     }
 }
 
-// Whether record i of table 0, 2, 3 or 4, at a place, is wrong: those whose records have no owner.
+// Whether record i of table t is wrong, of the tables whose records are tested without an owner: 0, 2, 3, 4.
 fn plain_wrong(b: &[u32], e: usize, t: usize, i: usize, at: usize) -> bool
     requires { ⌜ (t < 5) × (t ≡ 1 → ⊥) × Place e (now b) t i at ⌝ }
     ensures { λ r. ⌜ r ≡ recordWrong e (now (b .entry)) t i ⌝ }
@@ -354,9 +375,9 @@ fn plain_wrong(b: &[u32], e: usize, t: usize, i: usize, at: usize) -> bool
 
 // ---- the first bad record
 
-// The lowest bad record of such a table, or its count.
+// The lowest bad record of a table that needs no owner, or its count.
 fn first_plain(b: &[u32], e: usize, t: usize) -> usize
-    requires { ⌜ (t < 5) × (t ≡ 1 → ⊥) ⌝ }
+    requires { ⌜ (t < 5) × (t ≡ 1 → ⊥) × (ending e (now b) t ≤ length (now b)) ⌝ }
     ensures { λ r. ⌜ (r ≡ lowest e (now (b .entry)) t) × (r < 2 ^ 32) ⌝ }
 {
     let n = count_of(b, t);
@@ -372,8 +393,9 @@ fn first_plain(b: &[u32], e: usize, t: usize) -> usize
     i
 }
 
-// The lowest bad value, or their count. Values stand in the order of their variables, so the variable v only moves forward.
+// The lowest bad value, or their count. Its variable v only moves forward.
 fn first_value(b: &[u32], e: usize) -> usize
+    requires { ⌜ (ending e (now b) 0 ≤ length (now b)) × (ending e (now b) 1 ≤ length (now b)) ⌝ }
     ensures { λ r. ⌜ (r ≡ lowest e (now (b .entry)) 1) × (r < 2 ^ 32) ⌝ }
 {
     let n = count_of(b, 1);
@@ -392,6 +414,7 @@ fn first_value(b: &[u32], e: usize) -> usize
 
 // The lowest bad record of table 5, or its count. Its alternative a and that one's rule r only move forward.
 fn first_fifth(b: &[u32], e: usize) -> usize
+    requires { ⌜ (ending e (now b) 2 ≤ length (now b)) × (ending e (now b) 3 ≤ length (now b)) × (ending e (now b) 5 ≤ length (now b)) ⌝ }
     ensures { λ r. ⌜ (r ≡ lowest e (now (b .entry)) 5) × (r < 2 ^ 32) ⌝ }
 {
     let n = count_of(b, 5);
@@ -413,7 +436,7 @@ fn first_fifth(b: &[u32], e: usize) -> usize
 
 // The lowest bad record of table t, or its count.
 fn first_bad(b: &[u32], e: usize, t: usize) -> usize
-    requires { ⌜ t < 6 ⌝ }
+    requires { ⌜ (t < 6) × Within e (now b) ⌝ }
     ensures { λ r. ⌜ (r ≡ lowest e (now (b .entry)) t) × (r < 2 ^ 32) ⌝ }
 {
     if t == 1 {
@@ -427,6 +450,7 @@ fn first_bad(b: &[u32], e: usize, t: usize) -> usize
 
 // Whether the ranges of table t do not use up the next table.
 fn leaves_of(b: &[u32], e: usize, t: usize) -> bool
+    requires { ⌜ Within e (now b) ⌝ }
     ensures { λ r. ⌜ r ≡ leaves e (now (b .entry)) t ⌝ }
 {
     if t == 0 {
@@ -441,16 +465,17 @@ fn leaves_of(b: &[u32], e: usize, t: usize) -> bool
     false
 }
 
-// Whether table t is not good.
+// Whether table t has a bad record, or leaves some of the next table.
 fn table_wrong(b: &[u32], e: usize, t: usize) -> bool
-    requires { ⌜ t < 6 ⌝ }
+    requires { ⌜ (t < 6) × Within e (now b) ⌝ }
     ensures { λ r. ⌜ r ≡ tableWrong e (now (b .entry)) t ⌝ }
 {
     (first_bad(b, e, t) < count_of(b, t)) | leaves_of(b, e, t)
 }
 
-// The first table that is not good, or 6.
+// The first wrong table, or 6.
 fn first_table(b: &[u32], e: usize) -> usize
+    requires { ⌜ Within e (now b) ⌝ }
     ensures { λ r. ⌜ r ≡ firstTable e (now (b .entry)) ⌝ }
 {
     let mut t = 0;
@@ -463,7 +488,7 @@ fn first_table(b: &[u32], e: usize) -> usize
     t
 }
 
-// What is wrong with a book, where e is 1, or a sheet, where e is 2: the first row of the fault table, 1 to 4, that fits.
+// What is wrong with a book, if e is 1, or with a sheet, if e is 2: the first of answers 1 to 4 that fits, or no fault.
 pub fn check(b: &[u32], e: usize) -> Answer
     ensures { λ r. ⌜ numbersOf r ≡ bookFault e (now (b .entry)) ⌝ }
 {

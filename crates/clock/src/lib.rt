@@ -1,7 +1,6 @@
 // The type that stands for a time: its two marks, a duration later, and a difference against bounds.
 ghost use mathlib.Core.Path.{_≡_};
-ghost use Prim.Native.Nat.{_+_, _^_, _<_};
-ghost use Rattle.clock.specs.Clock.{lastTick, noLimit, at, later, inBounds};
+ghost use Rattle.clock.specs.Clock.{lastTick, noLimit, later, inBounds};
 
 // A time, in ticks. It is wide enough for the sum of any durations that lent words can hold, so that nothing wraps.
 pub struct Time {
@@ -33,15 +32,6 @@ impl Time {
             return Later::Past;
         }
         Later::At(Time { tick })
-    }
-
-    // The time d ticks later, past the last tick too: the caller shows that the sum fits.
-    pub fn after(self, d: u32) -> Time
-        requires { ⌜ self .tick + d < 2 ^ 64 ⌝ }
-        ensures { λ r. ⌜ r ≡ at (self .tick + d) ⌝ }
-    {
-        let tick = self.tick + d as u64;
-        Time { tick }
     }
 
     // Whether right minus self, as whole numbers, is at least lower and, unless that is the mark, at most upper.

@@ -7,4 +7,8 @@ use Rattle.book.proofs.fifth_width.Tie as tie
 
 pub fifth-width-spec : {M : Type 1} → statement M
 unfolding fifthWidth
-fifth-width-spec = tie.close (tie.spec (λ c. (simp (eq-eqb _ _ (c .if1 .taken)), omega arith)) (λ c. (simp (ne-eqb _ _ (c .if1 .left)), omega arith)))
+fifth-width-spec =
+    tie.close
+    (tie.spec
+    (λ c. (simp (eq-eqb _ _ (c .if1 .taken)), omega arith))
+    (λ c. (simp (ne-eqb _ _ (c .if1 .left)), omega arith)))

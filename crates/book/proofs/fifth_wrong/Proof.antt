@@ -1,8 +1,10 @@
 -- `book::fifth_wrong` meets its contract: an atom's or a constraint's tests, at its owners. Assumes nothing.
 use native.Mathlib.Nat.{add-zero}
+use native.Mathlib.Omega.{arith}
 use borrow.Author.Needs.{needs}
 use borrow.Author.Tests.{eq-eqb, ne-eqb}
 use Rattle.book.specs.Wrong.{fifthTests, fifthTestsOf, recordWrong}
+use Rattle.book.proofs.Bounds.{three-wide, six-wide}
 use Rattle.book.proofs.fifth_wrong.Statement.{statement}
 use Rattle.book.proofs.fifth_wrong.Tie as tie
 
@@ -20,7 +22,7 @@ fifth-wrong-spec =
     (λ c. search needs)
     (λ c. search needs)
     (λ c κs. search needs)
-    (λ c κs. search needs)
-    (λ c κs. search needs)
+    (λ c κs. omega (arith, three-wide (c .if1 .taken)))
+    (λ c κs. omega (arith, six-wide (c .if1 .left)))
     (λ c. simp (eq-eqb _ _ (c .before .if1 .taken), add-zero) (cc))
     (λ c. simp (ne-eqb _ _ (c .before .if1 .left), add-zero) (cc)))

@@ -1,6 +1,5 @@
 -- `book::first_fifth` meets its contract. The loop's invariant: no record before i is wrong, no alternative before a has record i, and no
 -- rule before r has alternative a. Assumes nothing.
-use mathlib.Core.Path.{refl}
 use Prim.Native.Nat.{_-_, _≤_}
 use native.Mathlib.Omega.{arith}
 use borrow.Author.Needs.{needs}
@@ -31,7 +30,10 @@ first-fifth-spec =
     (λ c κs. search (needs, cursors))
     (λ c. omega (arith, scaled (c .before .before .before .loop .i) _ (omega arith) (c .before .before .before .before .fifth-width .ensures .1)))
     (λ c. omega (arith, scaled (c .before .before .before .loop .i) _ (omega arith) (c .before .before .before .before .fifth-width .ensures .1)))
-    (λ c κs. (placed (omega arith) (c .before .before .before .before .before .offset-of .ensures) (c .before .before .before .before .fifth-width .ensures), search needs, search needs, search needs, search needs))
+    (λ c κs.
+    let w = c .before .before .before .before in
+    let n = w .before .before in
+    (placed (c .before .before .loop-test .taken) (n .count-of .ensures .0) (w .before .offset-of .ensures .0) (w .fifth-width .ensures .0) (n .before .before .pre .2), search needs, search needs, search needs, search needs))
     (λ c. (least-at _ _ _ (c .before .before .before .before .before .loop .inv .1) (omega arith) (cc), omega arith))
     (λ c. search needs)
     (λ c. search needs)

@@ -26,7 +26,10 @@ first-plain-spec =
     (λ c. search (needs, scan))
     (λ c. omega (arith, scaled (c .before .loop .i) _ (omega arith) (c .before .before .width-of .ensures .1)))
     (λ c. omega (arith, scaled (c .before .loop .i) _ (omega arith) (c .before .before .width-of .ensures .1)))
-    (λ c κs. (search needs, search needs, placed (omega arith) (c .before .before .before .offset-of .ensures) (c .before .before .width-of .ensures)))
+    (λ c κs.
+    let w = c .before .before in
+    let n = w .before .before in
+    (search needs, search needs, placed (c .loop-test .taken) (n .count-of .ensures .0) (w .before .offset-of .ensures .0) (w .width-of .ensures .0) (n .before .before .pre .2)))
     (λ c. (least-at _ _ _ (c .before .before .before .loop .inv .1) (omega arith) (cc), omega arith))
     (λ c. search needs)
     (λ c. search needs)

@@ -1,7 +1,8 @@
 -- `book::first_table` meets its contract. The loop's invariant: every table before t is good. Assumes nothing.
 use Prim.Native.Nat.{_-_, _≤_}
+use native.Mathlib.Omega.{arith}
 use borrow.Author.Needs.{needs}
-use Rattle.words.specs.Least.{Clear, scan}
+use Rattle.words.specs.Least.{Clear, least-at, scan}
 use Rattle.book.specs.Wrong.{tableWrong}
 use Rattle.book.proofs.first_table.Statement.{statement}
 use Rattle.book.proofs.first_table.Tie as tie
@@ -20,7 +21,7 @@ first-table-spec =
     μ-loop
     (λ c. search (needs, scan))
     (λ c κs. search needs)
-    (λ c. search (needs, scan))
+    (λ c. least-at _ _ _ (c .before .before .before .loop .inv .1) (omega arith) (cc))
     (λ c. search needs)
     (λ c. search needs)
     (λ c. search (needs, scan))

@@ -29,7 +29,9 @@ first-value-spec =
     (λ c κs. search (needs, cursors))
     (λ c. search needs)
     (λ c. search needs)
-    (λ c κs. (placed (omega arith) (c .before .before .before .offset-of .ensures) (refl, omega arith), search needs, search needs))
+    (λ c κs.
+    let n = c .before .before .before .before in
+    (placed (c .before .loop-test .taken) (n .count-of .ensures .0) (c .before .before .before .offset-of .ensures .0) refl (n .before .before .pre .1), search needs, search needs))
     (λ c. (least-at _ _ _ (c .before .before .before .before .loop .inv .1) (omega arith) (cc), omega arith))
     (λ c. search needs)
     (λ c. search needs)

@@ -16,6 +16,23 @@ header-wrong-spec =
     (λ c. search needs)
     (λ c κs. search needs)
     (λ c κs. search needs)
-    (λ c. simp (ne-eqb _ _ (c .before .before .before .before .if1 .left), ne-eqb _ _ (c .before .before .before .if2 .left), eq-eqb _ _ (c .before .before .if3 .taken), c .before .before .before .before .before .number-at .ensures .0, c .before .fewest-of .ensures, c .most-of .ensures))
+    (λ c.
+    let s = c .before .before in
+    simp (
+      ne-eqb _ _ (s .before .before .if1 .left),
+      ne-eqb _ _ (s .before .if2 .left),
+      eq-eqb _ _ (s .if3 .taken),
+      s .before .before .before .number-at .ensures .0,
+      c .before .fewest-of .ensures,
+      c .most-of .ensures,
+    ))
     (λ c κs. search needs)
-    (λ c. simp (ne-eqb _ _ (c .before .before .before .if1 .left), ne-eqb _ _ (c .before .before .if2 .left), ne-eqb _ _ (c .before .if3 .left), c .before .before .before .before .number-at .ensures .0, c .begins-of .ensures)))
+    (λ c.
+    let s = c .before in
+    simp (
+      ne-eqb _ _ (s .before .before .if1 .left),
+      ne-eqb _ _ (s .before .if2 .left),
+      ne-eqb _ _ (s .if3 .left),
+      s .before .before .before .number-at .ensures .0,
+      c .begins-of .ensures,
+    )))

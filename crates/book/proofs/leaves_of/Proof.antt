@@ -3,6 +3,7 @@ use mathlib.Core.Path.{_≡_, refl}
 use mathlib.Core.Bool.{false}
 use mathlib.Core.List.{List}
 use Prim.Native.Nat.{ℕ, zero, suc}
+use native.Mathlib.Omega.{arith}
 use borrow.Author.Needs.{needs}
 use Rattle.book.specs.Wrong.{leaves}
 use Rattle.book.proofs.leaves_of.Statement.{statement}
@@ -24,11 +25,11 @@ unfolding leaves
 leaves-of-spec =
     tie.close
     (tie.spec
-    (λ c κs. search needs)
+    (λ c κs. (search needs, search needs, search needs, c .before .before .pre 0 (omega arith)))
     (λ c. rw (c .before .if1 .taken) (c .unused-of .ensures))
-    (λ c κs. search needs)
+    (λ c κs. (search needs, search needs, search needs, c .before .before .before .pre 2 (omega arith)))
     (λ c. rw (c .before .if2 .taken) (c .unused-of2 .ensures))
-    (λ c κs. search needs)
-    (λ c κs. search needs)
+    (λ c κs. (search needs, search needs, search needs, c .before .before .before .before .pre 3 (omega arith)))
+    (λ c κs. (search needs, search needs, search needs, c .before .before .before .before .before .pre 3 (omega arith)))
     (λ c. rw (c .before .before .if3 .taken) (cc))
     (λ c. none _ _ _ (c .before .before .if1 .left) (c .before .if2 .left) (c .if3 .left)))

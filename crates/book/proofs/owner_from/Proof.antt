@@ -5,7 +5,8 @@ use borrow.Author.Needs.{needs}
 use borrow.Author.Tests.{lt-ltb, le-ltb}
 use Rattle.words.specs.Least.{Clear, clear-more, least-at, least-end}
 use Rattle.book.specs.Layout.{reaches, owner}
-use Rattle.book.proofs.Bounds.{scaled}
+use Rattle.book.specs.Owner.{Place}
+use Rattle.book.proofs.Bounds.{scaled, placed}
 use Rattle.book.proofs.owner_from.Statement.{statement}
 use Rattle.book.proofs.owner_from.Tie as tie
 
@@ -28,7 +29,12 @@ owner-from-spec =
     (λ c. search needs)
     (λ c. omega (arith, scaled (c .before .loop .k) _ (omega arith) (c .before .before .width-of .ensures .1)))
     (λ c. omega (arith, scaled (c .before .loop .k) _ (omega arith) (c .before .before .width-of .ensures .1)))
-    (λ c κs. omega (arith, scaled (c .before .loop .k) _ (omega arith) (c .before .before .width-of .ensures .1)))
+    (λ c κs.
+    let w = c .before .before in
+    let n = w .before .before in
+    let s = n .before .before in
+    let p : Place (s .args .e) (s .args .b .now) (s .args .t) (c .before .loop .k) _ = placed (c .loop-test .taken) (n .count-of .ensures .0) (w .before .offset-of .ensures .0) (w .width-of .ensures .0) (s .pre .2) in
+    omega arith)
     (λ c. (least-at _ _ _ (c .before .before .before .loop .inv .1) (omega arith) (cc (lt-ltb _ _ (c .if1 .taken))), omega arith))
     (λ c. search needs)
     (λ c. search needs)

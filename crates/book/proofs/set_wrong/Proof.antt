@@ -16,5 +16,9 @@ set-wrong-spec =
     tie.close
     (tie.spec
     (λ c. search needs)
-    (λ c. let h : 2 ^ c .before .args .n < 2 ^ 64 = pow-lt {i = c .before .args .n} {j = 64} (omega arith) in simp (one-mul, mod-eq-of-lt h))
-    (λ c. let h : 2 ^ 32 ≤ 2 ^ c .before .args .n = pow-mono (c .if1 .left) in sym (lt-leb (2 ^ c .before .args .n) (c .before .args .set) (omega arith))))
+    (λ c.
+    let h : 2 ^ c .before .args .n < 2 ^ 64 = pow-lt {i = c .before .args .n} {j = 64} (omega arith) in
+    simp (one-mul, mod-eq-of-lt h))
+    (λ c.
+    let h : 2 ^ 32 ≤ 2 ^ c .before .args .n = pow-mono (c .if1 .left) in
+    sym (lt-leb (2 ^ c .before .args .n) (c .before .args .set) (omega arith))))
