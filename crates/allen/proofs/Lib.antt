@@ -1,0 +1,2 @@
+-- What the proofs of `allen` use.
+mod Laws

@@ -1,0 +1,4 @@
+-- The definitions that the contract of `allen` cites, and the theorems on relations.
+pub mod Relation
+pub mod Atoms
+pub mod One

@@ -1,0 +1,62 @@
+-- When an alternative is met for one trigger token, on decoded objects. Assumes nothing.
+use mathlib.Core.Bool.{Bool, _&&_, cond}
+use mathlib.Core.List.{List, [], _∷_}
+use Prim.Native.Nat.{ℕ, _+_, _*_}
+use lib.Dec.{eqb}
+use lib.ListN.{getD, set}
+use Rattle.words.specs.Words.{inSet}
+use Rattle.words.specs.Lists.{any, all}
+use Rattle.clock.specs.Clock.{noLimit, inBounds}
+use Rattle.book.specs.Rules.{Name, Atom, Constraint, Alternative, Rule}
+use Rattle.plan.specs.declared.Token.{Token}
+use Rattle.plan.specs.Lines.{token}
+use Rattle.allen.specs.Relation.{relationOf}
+
+-- what stands for a token that isn't there: the trigger of a rule without one, and the names that no token was chosen for yet
+abbrev pub nobody : Token
+nobody = token 0 0 1
+
+-- a choice is ten times: start and end of the trigger, and of the token of each of at most four names, in their order
+abbrev pub Choice : Type 0
+Choice = List ℕ
+
+-- the choice of the trigger alone
+abbrev pub triggered : Token → Choice
+triggered t = t .start .tick ∷ t .end .tick ∷ 0 ∷ 1 ∷ 0 ∷ 1 ∷ 0 ∷ 1 ∷ 0 ∷ 1 ∷ []
+
+-- the choice with start and end of a token for name number k
+unfoldable pub put : Choice → ℕ → ℕ → ℕ → Choice
+put c k start end = set (set c (2 * k) start) (2 * k + 1) end
+
+-- "0 start of, 1 end of" the token that an argument names: "0 for the trigger or 1..n for the alternative's names"
+unfoldable pub tokenTime : Choice → ℕ → ℕ → ℕ
+tokenTime c kind k = getD c (2 * k + kind) kind
+
+-- the time of a term: a token's, or "2 time point"
+unfoldable pub timeOf : Choice → ℕ → ℕ → ℕ
+timeOf c kind k = cond (eqb kind 2) k (tokenTime c kind k)
+
+-- "An atom holds when right minus left, as whole numbers, is at least lower and (unless N) at most upper"
+unfoldable pub atomHolds : Choice → Atom → Bool
+atomHolds c a = inBounds noLimit (timeOf c (a .leftKind) (a .left)) (timeOf c (a .rightKind) (a .right)) (a .lower) (a .upper)
+
+-- "Two tokens stand in exactly one relation; a constraint holds when that one is in the set"
+unfoldable pub constraintHolds : Choice → Constraint → Bool
+constraintHolds c q =
+    inSet (q .set) (relationOf (tokenTime c 0 (q .left)) (tokenTime c 1 (q .left)) (tokenTime c 0 (q .right)) (tokenTime c 1 (q .right)))
+
+-- tokens "of the named variable and value" can be chosen for the names, put to the places k, k + 1, .. of the choice c, so that p passes
+unfoldable pub place : (ℕ → List Token) → (Choice → Bool) → List Name → ℕ → Choice → Bool
+place lines p [] k c = p c
+place lines p (n ∷ ns) k c =
+    any (λ (t : Token). eqb (t .value) (n .value) && place lines p ns (k + 1) (put c k (t .start .tick) (t .end .tick))) (lines (n .variable))
+
+-- the rest is the same for a book and a sheet: `holds` says when what an alternative asks holds
+module _ {C : Type 0} (holds : Choice → C → Bool) (lines : ℕ → List Token) where
+  -- "a token for each of its names .. so that all atoms hold"
+  unfoldable pub alternativeMet : Choice → Alternative C → Bool
+  alternativeMet c a = place lines (λ (d : Choice). all (holds d) (a .asks)) (a .names) 1 c
+
+  -- the "trigger token has an alternative"
+  unfoldable pub met : Rule C → Token → Bool
+  met r t = any (alternativeMet (triggered t)) (r .alternatives)

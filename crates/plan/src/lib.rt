@@ -1,0 +1,347 @@
+// The layout of a plan, answers 5 to 11, and a position on one of its timelines.
+use answers::Answer;
+use clock::Later;
+use clock::Time;
+ghost use mathlib.Core.Path.{_≡_};
+ghost use Prim.Native.Nat.{_+_, _*_, _≤_, _<_, _^_};
+ghost use Rattle.answers.specs.Numbers.{numbers, numbersOf};
+ghost use lib.ListN.{length};
+ghost use Rattle.plan.specs.Lines.{lineCount, linePlace};
+ghost use Rattle.plan.specs.Fault.{sumBefore, headWrong, firstHead, firstToken, tokensFault, planFault};
+ghost use Rattle.plan.specs.Judge.{Inside, Constants, Within, valueAt, outsideOf, breaksOf, faultOf, lineNumber};
+ghost use Rattle.plan.specs.Walk.{position, stepOf};
+
+// A token of a timeline: its value, and when it starts and ends.
+pub struct Token {
+    pub value: u32,
+    pub start: Time,
+    pub end: Time,
+}
+
+// A place on a timeline: its line, the number of the next token there, and when that starts.
+pub struct Position {
+    pub line: u32,
+    pub token: u32,
+    pub start: Time,
+}
+
+// What a step gives: the token and the next position, or the position back.
+pub enum Step {
+    Handed(Token, Position),
+    NoMore(Position),
+}
+
+// What the tokens of a line are read by: their place and number, how many values the line's variable has, where the book has the
+// first of them, and how many of them the book wholly has.
+struct Line {
+    place: usize,
+    tokens: u32,
+    values: u32,
+    base: usize,
+    inside: u32,
+}
+
+// A value, as the book has it: whether the variable lacks it, its least and greatest duration, and its successor set.
+struct Value {
+    unknown: bool,
+    least: u32,
+    greatest: u32,
+    next: u32,
+}
+
+// The fault number of a line's first faulty token, and which token it is; 0 where all are right.
+struct Found {
+    number: u32,
+    token: u32,
+}
+
+// What the first token of line v has to be: the running sum of the counts before it.
+fn sum_before(plan: &[u32], v: usize) -> usize
+    requires { ⌜ v < 2 ^ 40 ⌝ }
+    ensures { λ r. ⌜ (r ≡ sumBefore (now (plan .entry)) v) × (r < 2 ^ 33) ⌝ }
+{
+    if v == 0 {
+        return 0;
+    }
+    let first = words::number_at(plan, 3 + 2 * (v - 1));
+    let tokens = words::number_at(plan, 4 + 2 * (v - 1));
+    first + tokens
+}
+
+// Whether word k before the tokens is wrong.
+fn head_wrong(book: &[u32], plan: &[u32], k: usize) -> bool
+    requires { ⌜ k < 2 ^ 40 ⌝ }
+    ensures { λ r. ⌜ r ≡ headWrong (now (book .entry)) (now (plan .entry)) k ⌝ }
+{
+    let x = words::number_at(plan, k);
+    if k == 0 {
+        return x != 1;
+    }
+    if k == 1 {
+        return x != plan.len();
+    }
+    if k == 2 {
+        return x != words::number_at(book, 2);
+    }
+    if k % 2 == 1 {
+        return x != sum_before(plan, (k - 3) / 2);
+    }
+    x > 512
+}
+
+// The first wrong word before the tokens, or where the tokens begin.
+fn first_head(book: &[u32], plan: &[u32]) -> usize
+    ensures { λ r. ⌜ r ≡ firstHead (now (book .entry)) (now (plan .entry)) ⌝ }
+{
+    let n = 3 + 2 * words::number_at(book, 2);
+    let mut k = 0;
+    while k < n {
+        if head_wrong(book, plan, k) {
+            return k;
+        }
+        k += 1;
+    }
+    k
+}
+
+// Whether a duration is outside the bounds of its value.
+fn outside(least: u32, greatest: u32, d: u32) -> bool
+    ensures { λ r. ⌜ r ≡ outsideOf least greatest d ⌝ }
+{
+    (d < least) | ((greatest != Time::NO_LIMIT) & (greatest < d))
+}
+
+// Whether a value may not stand where it does: any may stand first, and later those in the set of the token before.
+fn breaks(first: bool, set: u32, x: u32) -> bool
+    ensures { λ r. ⌜ r ≡ breaksOf first set x ⌝ }
+{
+    if first {
+        return false;
+    }
+    !words::in_set(set, x)
+}
+
+// What is wrong with a token: 8, 9, 10 or 11, in this order, or 0.
+fn token_fault(value: Value, x: u32, d: u32, first: bool, set: u32, end: u64) -> u32
+    ensures { λ r. ⌜ r ≡ faultOf value x d first set end ⌝ }
+{
+    if value.unknown {
+        return 8;
+    }
+    if outside(value.least, value.greatest, d) {
+        return 9;
+    }
+    if breaks(first, set, x) {
+        return 10;
+    }
+    if end > Time::LAST_TICK {
+        return 11;
+    }
+    0
+}
+
+// How many of the values, all of them or none, the book has wholly from a place on.
+fn inside_of(book: &[u32], base: usize, values: u32) -> u32
+    requires { ⌜ base < 2 ^ 36 ⌝ }
+    ensures { λ r. ⌜ Inside (now (book .entry)) base values r ⌝ }
+{
+    if base + (values as usize) * 3 <= book.len() {
+        return values;
+    }
+    0
+}
+
+// What the tokens of line v are read by.
+fn line_of(book: &[u32], plan: &[u32], v: usize) -> Line
+    requires { ⌜ v < 2 ^ 32 ⌝ }
+    ensures { λ r. ⌜ Constants (now (book .entry)) (now (plan .entry)) v r ⌝ }
+{
+    let variable = words::number_at(book, 3) + v * 2;
+    let first = words::number_at(book, variable);
+    let values = words::word_at(book, variable + 1);
+    let base = words::number_at(book, 5) + first * 3;
+    let inside = inside_of(book, base, values);
+    let lines = words::number_at(plan, 2);
+    let place = 3 + 2 * lines + 2 * words::number_at(plan, 3 + 2 * v);
+    let tokens = words::word_at(plan, 4 + 2 * v);
+    Line {
+        place,
+        tokens,
+        values,
+        base,
+        inside,
+    }
+}
+
+// Value x of the line's variable. A good book has it wholly; what lies past the end of another is 0.
+fn value_of(book: &[u32], line: Line, x: u32) -> Value
+    requires { ⌜ (line .base < 2 ^ 36) × Inside (now book) (line .base) (line .values) (line .inside) ⌝ }
+    ensures { λ r. ⌜ r ≡ valueAt (now (book .entry)) (line .values) (line .base + x * 3) x ⌝ }
+{
+    let at = line.base + (x as usize) * 3;
+    if x < line.inside {
+        let least = book[at];
+        let greatest = book[at + 1];
+        let next = book[at + 2];
+        return Value {
+            unknown: false,
+            least,
+            greatest,
+            next,
+        };
+    }
+    Value {
+        unknown: line.values <= x,
+        least: words::word_at(book, at),
+        greatest: words::word_at(book, at + 1),
+        next: words::word_at(book, at + 2),
+    }
+}
+
+// The first faulty token of line v, with its fault. The running start and the successor set of the token before are carried along.
+fn line_fault(book: &[u32], plan: &[u32], v: usize) -> Found
+    requires { ⌜ (v < 2 ^ 32) × (linePlace (now plan) v + 2 * lineCount (now plan) v ≤ length (now plan)) ⌝ }
+    ensures { λ r. ⌜ (r .number ≡ lineNumber (now (book .entry)) (now (plan .entry)) v) × (r .token ≡ firstToken (now (book .entry)) (now (plan .entry)) v) ⌝ }
+{
+    let line = line_of(book, plan, v);
+    let place = line.place;
+    let tokens = line.tokens;
+    let mut j: u32 = 0;
+    let mut start: u64 = 0;
+    let mut set: u32 = 0;
+    while j < tokens {
+        let at = place + 2 * (j as usize);
+        let x = plan[at];
+        let d = plan[at + 1];
+        let value = value_of(book, line, x);
+        let end = start + d as u64;
+        let number = token_fault(value, x, d, j == 0, set, end);
+        if number != 0 {
+            return Found { number, token: j };
+        }
+        start = end;
+        set = value.next;
+        j += 1;
+    }
+    Found {
+        number: 0,
+        token: j,
+    }
+}
+
+// The answer for a token's fault number.
+fn answer_of(number: u32, timeline: u32, token: u32) -> Answer
+    requires { ⌜ (8 ≤ number) × (number ≤ 11) ⌝ }
+    ensures { λ r. ⌜ numbersOf r ≡ numbers number timeline token ⌝ }
+{
+    if number == 8 {
+        return Answer::ValueUnknown { timeline, token };
+    }
+    if number == 9 {
+        return Answer::DurationOutside { timeline, token };
+    }
+    if number == 10 {
+        return Answer::NotSuccessor { timeline, token };
+    }
+    Answer::PastLastTick { timeline, token }
+}
+
+// The first faulty token of the first line that has one.
+fn check_tokens(book: &[u32], plan: &[u32]) -> Answer
+    requires { ⌜ Within (now book) (now plan) ⌝ }
+    ensures { λ r. ⌜ numbersOf r ≡ tokensFault (now (book .entry)) (now (plan .entry)) ⌝ }
+{
+    let n = words::word_at(book, 2);
+    let mut v: u32 = 0;
+    while v < n {
+        let found = line_fault(book, plan, v as usize);
+        if found.number != 0 {
+            return answer_of(found.number, v, found.token);
+        }
+        v += 1;
+    }
+    Answer::NoFault
+}
+
+// What is wrong with the plan, given the book.
+pub fn check(book: &[u32], plan: &[u32]) -> Answer
+    ensures { λ r. ⌜ numbersOf r ≡ planFault (now (book .entry)) (now (plan .entry)) ⌝ }
+{
+    let n = words::number_at(book, 2);
+    let start = 3 + 2 * n;
+    let length = plan.len();
+    if (length < start) | (length > 16384) {
+        return Answer::PlanLength;
+    }
+    let k = first_head(book, plan);
+    if k < start {
+        return Answer::PlanHeader { word: k as u32 };
+    }
+    let sum = sum_before(plan, n);
+    if start + 2 * sum != length {
+        return Answer::PlanEnd;
+    }
+    check_tokens(book, plan)
+}
+
+impl Position {
+    // The first token of a line.
+    pub fn at_start(line: u32) -> Position
+        ensures { λ r. ⌜ r ≡ position line 0 0 ⌝ }
+    {
+        Position {
+            line,
+            token: 0,
+            start: Time { tick: 0 },
+        }
+    }
+
+    // A position that names no token.
+    pub fn nowhere(line: u32) -> Position
+        ensures { λ r. ⌜ r ≡ position line 4294967295 0 ⌝ }
+    {
+        Position {
+            line,
+            token: 4294967295,
+            start: Time { tick: 0 },
+        }
+    }
+
+    // The token that the position names, with the next position; or no more, and the position back.
+    pub fn step(self, plan: &[u32]) -> Step
+        ensures { λ r. ⌜ r ≡ stepOf (now (plan .entry)) self ⌝ }
+    {
+        let line = self.line;
+        let number = self.token;
+        let start = self.start;
+        let l = line as usize;
+        let k = number as usize;
+        let lines = words::number_at(plan, 2);
+        if lines <= l {
+            return Step::NoMore(self);
+        }
+        let tokens = words::number_at(plan, 4 + 2 * l);
+        if tokens <= k {
+            return Step::NoMore(self);
+        }
+        let at = 3 + 2 * lines + 2 * words::number_at(plan, 3 + 2 * l) + 2 * k;
+        if plan.len() <= at + 1 {
+            return Step::NoMore(self);
+        }
+        match start.plus(words::word_at(plan, at + 1)) {
+            Later::Past => Step::NoMore(self),
+            Later::At(end) => Step::Handed(
+                Token {
+                    value: words::word_at(plan, at),
+                    start,
+                    end,
+                },
+                Position {
+                    line,
+                    token: number + 1,
+                    start: end,
+                },
+            ),
+        }
+    }
+}

@@ -1,0 +1,85 @@
+-- `verdict::survey_line` meets its contract. The loop's invariant: what the line comes to is what its passed tokens and the rest come to,
+-- and no sum wraps. The measure is the number of tokens left. Assumes nothing.
+use borrow.Author.Needs.{needs}
+use native.Mathlib.Omega.{arith}
+use mathlib.Core.Logic.{⊎-elim}
+use Prim.Native.Nat.{_-_}
+use Rattle.verdict.specs.Steps.{RuleWords, OnLine, line-start, line-other, line-met, line-unmet, line-end}
+use Rattle.verdict.proofs.survey_line.Statement.{statement}
+use Rattle.verdict.proofs.survey_line.Tie as tie
+
+abbrev Inv-loop : tie.InvT-loop
+Inv-loop e b p place line value first n count at₀ start₀ token₀ seen₀ at start token seen =
+    RuleWords b place value first n × OnLine e b p place count at start token seen
+
+abbrev μ-loop : tie.MeasureT-loop
+μ-loop e b p place line value first n count at₀ start₀ token₀ seen₀ at start token seen = count - token
+
+loop-holds : tie.Need-loop-holds Inv-loop μ-loop
+loop-holds c =
+    let n = c .before .before .before in
+    let l = n .before .before .before in
+    let some = l .before .before .before .pre .1 in (
+      record { triggered = some; value = n .before .before .word-at .ensures; first = n .before .word-at2 .ensures; number = n .word-at3 .ensures },
+      line-start _ _ _ _ _ _ _ _ some (l .number-at .ensures .0) (c .before .before .word-at4 .ensures) (c .before .number-at2 .ensures .0)
+          (c .number-at3 .ensures .0) (omega arith) (omega arith) (omega arith),
+    )
+
+loop-again : tie.Need-loop-again Inv-loop μ-loop
+loop-again c =
+    let w = c .before in
+    let l = w .before .before .before .loop .inv in
+    let more = w .before .before .loop-test .taken in
+    let d = w .before .word-at5 .ensures in (
+      l .0,
+      ⊎-elim
+          (λ o. rw (o .3) (line-met (l .1) (l .0) _ _ more d (w .word-at6 .ensures) _ (omega arith) (o .0 .taken) (o .1 .ensures) (o .2 .left)))
+          (λ o. rw (o .1) (line-other (l .1) (l .0) _ _ more d (w .word-at6 .ensures) (omega arith) (o .0 .left)))
+          (c .if1 .came),
+    )
+
+returns : tie.Need-returns Inv-loop μ-loop
+returns c =
+    let l = c .before .loop .inv in
+    ⊎-elim
+    (λ o. line-end (l .1) (o .left))
+    (λ o. line-unmet (l .1) (l .0) _ _ (o .0 .taken) (o .1 .ensures) (o .2 .ensures) _ (o .3 .taken) (o .4 .ensures) (o .5 .taken))
+    (c .loop-test .came)
+
+pub survey-line-spec : {M : Type 1} → statement M
+survey-line-spec =
+    tie.close
+    (tie.spec
+    Inv-loop
+    μ-loop
+    (λ c κs. search needs)
+    (λ c. search needs)
+    (λ c κs. search needs)
+    (λ c. search needs)
+    (λ c κs. search needs)
+    (λ c. search needs)
+    (λ c κs. search needs)
+    (λ c. search needs)
+    (λ c. search needs)
+    (λ c κs. search needs)
+    (λ c κs. search needs)
+    (λ c. search needs)
+    (λ c. search needs)
+    (λ c. search needs)
+    (λ c. search needs)
+    (λ c κs. search needs)
+    (λ c. search needs)
+    (λ c. search needs)
+    loop-holds
+    (λ c. search needs)
+    (λ c κs. search needs)
+    (λ c. search needs)
+    (λ c. search needs)
+    (λ c κs. search needs)
+    (λ c κs. search needs)
+    (λ c. search needs)
+    (λ c. search needs)
+    (λ c. search needs)
+    (λ c. search needs)
+    loop-again
+    returns)
