@@ -1,0 +1,103 @@
+-- No claim here rests on an "if" that no input meets: for each row of the fault table there is an input that gets it, out of the table of
+-- Specimens, and so what the row says is so of that input. Assumes nothing.
+use mathlib.Core.Path.{_≡_, ap, _∙_}
+use mathlib.Core.Bool.{true}
+use mathlib.Core.List.{List, [], _∷_}
+use Prim.Native.Nat.{ℕ, _<_}
+use native.Mathlib.Omega.{arith}
+use lib.Dec.{eqb}
+use lib.ListN.{length, getD, take, set}
+use borrow.Author.Tests.{eqb-true}
+use Rattle.answers.specs.declared.Numbers.{Numbers}
+use Rattle.answers.specs.Numbers.{numbers}
+use Rattle.words.specs.Lists.{all, All}
+use Rattle.book.specs.Rules.{rulesOf}
+use Rattle.book.specs.Encode.{atoms}
+use Rattle.book.specs.Specimen.{bookE, sheetE, same}
+use Rattle.plan.specs.Lines.{lineOf}
+use Rattle.verdict.specs.Judged.{judged, judgedSheet}
+use Rattle.translator.specs.Translation.{translation}
+use Rattle.claims.specs.Specimens.{planP1, planP2, freeBook, freeNamed, emptyLine, Specimen, stretches, stands, specimens, all-stand}
+use Rattle.claims.specs.Matched.{and-so, all-at}
+use Rattle.claims.specs.Papers.{Met, Satisfies}
+use Rattle.claims.specs.RulesMet.{Fails}
+use Rattle.claims.specs.Accepted.{Accepted, Examined, accepted-count}
+use Rattle.claims.specs.FaultsOfRules.{FirstRule, fault-12}
+
+-- each row of the table stands
+rows-stand : (xs : List Specimen) → all stands xs ≡ true → All (λ (s : Specimen). stands s ≡ true) xs
+unfolding all
+rows-stand [] h = tt
+rows-stand (x ∷ xs) h = let q = and-so (stands x) (all stands xs) .0 h in (q .0, rows-stand xs (q .1))
+
+-- row k of it
+row : (k : ℕ) → k < length specimens → stands (getD specimens k (stretches 0 0 0 0 0)) ≡ true
+row = all-at (λ (s : Specimen). stands s ≡ true) (stretches 0 0 0 0 0) specimens .0 (rows-stand specimens all-stand)
+
+-- two answers with the same numbers are the same
+same-is : (x y : Numbers) → same x y ≡ true → x ≡ y
+same-is x y h =
+    let q = and-so _ _ .0 h in
+    let r = and-so (eqb (x .number) (y .number)) (eqb (x .a) (y .a)) .0 (q .0) in
+    let n = eqb-true _ _ (r .0) in
+    let a = eqb-true _ _ (r .1) in
+    let b = eqb-true _ _ (q .1) in
+    ap (λ (k : ℕ). numbers k (x .a) (x .b)) n ∙ ap (λ (k : ℕ). numbers (y .number) k (x .b)) a ∙ ap (λ (k : ℕ). numbers (y .number) (y .a) k) b
+
+-- the rows 1 to 12 and 0 of the fault table, each with an input that gets it
+pub examples :
+    (judged [] planP2 ≡ numbers 1 0 0)
+    × (judged (set bookE 13 41) planP2 ≡ numbers 2 13 0)
+    × (judged (set bookE 12 1) planP2 ≡ numbers 3 0 0)
+    × (judged (set bookE 30 2) planP2 ≡ numbers 4 2 0)
+    × (judged (set bookE 17 1) planP2 ≡ numbers 4 0 2)
+    × (judged bookE [] ≡ numbers 5 0 0)
+    × (judged bookE (set planP2 6 513) ≡ numbers 6 6 0)
+    × (judged bookE (set (take 17 planP2) 1 17) ≡ numbers 7 0 0)
+    × (judged bookE (set planP2 9 2) ≡ numbers 8 0 1)
+    × (judged bookE (set planP2 14 4) ≡ numbers 9 1 1)
+    × (judged bookE (set planP2 9 0) ≡ numbers 10 0 1)
+    × (judged bookE (set planP2 10 999999991) ≡ numbers 11 0 1)
+    × (judged bookE planP1 ≡ numbers 12 0 3)
+    × (judged freeNamed emptyLine ≡ numbers 12 0 0)
+    × (judged bookE planP2 ≡ numbers 0 2 0)
+    × (judged freeBook emptyLine ≡ numbers 0 1 0)
+examples = (
+  same-is _ _ (row 13 (omega arith)),
+  same-is _ _ (row 14 (omega arith)),
+  same-is _ _ (row 15 (omega arith)),
+  same-is _ _ (row 16 (omega arith)),
+  same-is _ _ (row 17 (omega arith)),
+  same-is _ _ (row 18 (omega arith)),
+  same-is _ _ (row 19 (omega arith)),
+  same-is _ _ (row 20 (omega arith)),
+  same-is _ _ (row 8 (omega arith)),
+  same-is _ _ (row 3 (omega arith)),
+  same-is _ _ (row 7 (omega arith)),
+  same-is _ _ (row 10 (omega arith)),
+  same-is _ _ (row 0 (omega arith)),
+  same-is _ _ (row 12 (omega arith)),
+  same-is _ _ (row 1 (omega arith)),
+  same-is _ _ (row 11 (omega arith)),
+)
+
+-- the direct judge's rows 12 and 0, and the translator's 0 and 15
+pub sheet-examples :
+    (judgedSheet sheetE planP1 ≡ numbers 12 0 3)
+    × (judgedSheet sheetE planP2 ≡ numbers 0 2 0)
+    × (translation sheetE 106 ≡ numbers 0 106 4)
+    × (translation sheetE 105 ≡ numbers 15 106 0)
+sheet-examples = (
+  same-is _ _ (row 29 (omega arith)),
+  same-is _ _ (row 30 (omega arith)),
+  same-is _ _ (row 27 (omega arith)),
+  same-is _ _ (row 28 (omega arith)),
+)
+
+-- so P2 is a solution plan of E, with two trigger tokens
+pub P2-accepted : Accepted bookE planP2 × Examined (lineOf planP2) (rulesOf atoms bookE) 2
+P2-accepted = accepted-count bookE planP2 2 .0 (examples .14)
+
+-- and P1 isn't: its rule 0 fails first at token 3 of the RIP's line
+pub P1-refused : FirstRule (rulesOf atoms bookE) (Satisfies (lineOf planP1)) (λ r. Fails (lineOf planP1) r (Met (lineOf planP1) r)) 0 3
+P1-refused = fault-12 bookE planP1 0 3 .0 (examples .12) .3

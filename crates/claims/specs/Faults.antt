@@ -1,0 +1,130 @@
+-- Demand 2, "otherwise the first fault in the stated order; no fault is named that isn't there": the rows 1 to 11 of the fault table, each
+-- exactly if what it says is so and nothing before it in the order is. For a book and for a sheet alike. Row 12 is `fault-12` in
+-- FaultsOfRules, row 0 `accepted` in Accepted, and Examples has an input for each. Assumes nothing.
+use mathlib.Core.Path.{_≡_}
+use mathlib.Core.Logic.{_↔_, _⊎_}
+use mathlib.Core.List.{List}
+use Prim.Native.Nat.{ℕ, _+_, _*_, _≤_, _<_}
+use native.Mathlib.Omega.{arith}
+use lib.ListN.{length, getD, take}
+use Rattle.answers.specs.declared.Numbers.{Numbers}
+use Rattle.answers.specs.Numbers.{numbers, orElse}
+use Rattle.book.specs.Layout.{count, ending}
+use Rattle.book.specs.Fault as book
+use Rattle.book.specs.Sound.{Sound}
+use Rattle.book.specs.Encode.{atoms, constraints}
+use Rattle.book.specs.Rules.{rulesOf}
+use Rattle.plan.specs.Lines.{lineOf}
+use Rattle.plan.specs.Fault as plan
+use Rattle.plan.specs.Good.{HeadGood}
+use Rattle.matching.specs.Met.{atomHolds, constraintHolds}
+use Rattle.verdict.specs.Judged.{rulesFault, judged, judgedSheet}
+use Rattle.claims.specs.Stages.{Own, Passed, firstOf, from, noStage, stagesOf, at-stage, ordered, rules-own, in-order}
+use Rattle.claims.specs.Wrongs.{First, Tables, None, BookSized, HeaderWrong, TableGood, TableBad, PlanSized, HeadWrong}
+use Rattle.claims.specs.FaultsOfTables.{missed, outside, sized-none, header-none, end-none, with-book, header-is, record-is, plan-sized, head-none, plan-ends, head-is}
+use Rattle.claims.specs.Timelines.{variableOf}
+use Rattle.claims.specs.FaultsOfTokens.{TokenWrong, FirstToken, tokens-is}
+
+-- THE FAULT TABLE, row by row, of an answer to a book (edition e is 1) or sheet (2) and a plan
+pub record FaultTable (e : ℕ) (b p : List ℕ) (answer : Numbers) : Type 0 where
+  -- 1 "book length not 14..16,384"
+  pub fault-1 : (answer ≡ numbers 1 0 0) ↔ ((length b < 14) ⊎ (16384 < length b))
+  -- 2 "header word wrong, first of 0..13"
+  pub fault-2 : (word : ℕ) → (answer ≡ numbers 2 word 0) ↔ (BookSized b × First 14 (HeaderWrong e b) word)
+  -- 3 "table 5 doesn't end at the length"
+  pub fault-3 : (answer ≡ numbers 3 0 0) ↔ (BookSized b × None 14 (HeaderWrong e b) × (ending e b 5 ≡ length b → ⊥))
+  -- 4 "bad record; tables 0 to 5, lowest record; a table only if those before are good"
+  pub fault-4 : (table row : ℕ) → (answer ≡ numbers 4 table row)
+      ↔ (BookSized b × None 14 (HeaderWrong e b) × (ending e b 5 ≡ length b) × (table < 6)
+      × ((t : ℕ) → t < table → TableGood e b t) × TableBad e b table row)
+  -- 5 "plan length below 3 + 2 x variables, or above 16,384"
+  pub fault-5 : (answer ≡ numbers 5 0 0) ↔ (Sound e b × ((length p < 3 + 2 * count b 0) ⊎ (16384 < length p)))
+  -- 6 "first wrong word before the tokens"
+  pub fault-6 : (word : ℕ) → (answer ≡ numbers 6 word 0) ↔ (Sound e b × PlanSized b p × First (3 + 2 * count b 0) (HeadWrong b p) word)
+  -- 7 "tokens don't end at the length"
+  pub fault-7 : (answer ≡ numbers 7 0 0)
+      ↔ (Sound e b × PlanSized b p × HeadGood b p × (3 + 2 * count b 0 + 2 * plan.sumBefore p (count b 0) ≡ length p → ⊥))
+  -- 8 "value unknown", 9 "duration outside least..greatest", 10 "not a successor of the token before", 11 "token ends after 1,000,000,000":
+  -- the first token in the order that is wrong, by the first of the four tests that it doesn't pass
+  pub fault-8-to-11 : (n timeline token : ℕ) → 8 ≤ n → n ≤ 11 → (answer ≡ numbers n timeline token)
+      ↔ (Sound e b × Tables b p × FirstToken b p timeline token × TokenWrong (variableOf b timeline) (lineOf p timeline) token n)
+
+-- THE THEOREM: whatever comes last with the number 12 or none, the answer is as the table says
+pub fault-table : (e : ℕ) (b p : List ℕ) (last : Numbers) → Own 12 13 last
+    → FaultTable e b p (orElse (book.bookFault e b) (orElse (plan.planFault b p) last))
+unfolding book.lengthFault book.endFault plan.lengthFault plan.endFault
+fault-table e b p last own =
+    rw (in-order e b p last)
+    (record {
+      fault-1 = let s = stage 0 (numbers 1 0 0) (omega arith) (omega arith) (omega arith) in
+          let o = outside 1 (omega arith) (length b) 14 16384 in
+          (λ h. o .0 (s .0 h .1), λ h. s .1 (tt, o .1 h));
+      fault-2 = λ k.
+          let s = stage 1 (numbers 2 k 0) (omega arith) (omega arith) (omega arith) in
+          (λ h. let q = s .0 h in (sized-none e b .0 (q .0 .0), header-is e b k .0 (q .1)), λ h. s .1 ((sized-none e b .1 (h .0), tt), header-is e b k .1 (h .1)));
+      fault-3 =
+          let s = stage 2 (numbers 3 0 0) (omega arith) (omega arith) (omega arith) in
+          let m = missed 3 (omega arith) (ending e b 5) (length b) in (
+            λ h. let q = s .0 h in (sized-none e b .0 (q .0 .0), header-none e b .0 (q .0 .1 .0), m .0 (q .1)),
+            λ h. s .1 ((sized-none e b .1 (h .0), (header-none e b .1 (h .1), tt)), m .1 (h .2)),
+          );
+      fault-4 = λ t i.
+          let s = stage 3 (numbers 4 t i) (omega arith) (omega arith) (omega arith) in
+          let m = record-is e b t i in (
+            λ h.
+                let q = s .0 h in
+                let r = m .0 (q .1) in
+                (sized-none e b .0 (q .0 .0), header-none e b .0 (q .0 .1 .0), end-none e b .0 (q .0 .1 .1 .0), r .0, r .1, r .2),
+            λ h.
+                s .1
+                ((sized-none e b .1 (h .0), (header-none e b .1 (h .1), (end-none e b .1 (h .2), tt))), m .1 (h .3, h .4, h .5)),
+          );
+      fault-5 =
+          let s = stage 4 (numbers 5 0 0) (omega arith) (omega arith) (omega arith) in
+          let o = outside 5 (omega arith) (length p) (3 + 2 * count b 0) 16384 in
+          (λ h. let q = s .0 h in (with-book e b .0 (q .0) .0, o .0 (q .1)), λ h. s .1 (with-book e b .1 (h .0, tt), o .1 (h .1)));
+      fault-6 = λ k.
+          let s = stage 5 (numbers 6 k 0) (omega arith) (omega arith) (omega arith) in (
+            λ h.
+                let q = s .0 h in
+                let w = with-book e b .0 (q .0) in
+                (w .0, plan-sized b p .0 (w .1 .0), head-is b p k .0 (q .1)),
+            λ h. s .1 (with-book e b .1 (h .0, (plan-sized b p .1 (h .1), tt)), head-is b p k .1 (h .2)),
+          );
+      fault-7 =
+          let s = stage 6 (numbers 7 0 0) (omega arith) (omega arith) (omega arith) in
+          let m = missed 7 (omega arith) (3 + 2 * count b 0 + 2 * plan.sumBefore p (count b 0)) (length p) in (
+            λ h.
+                let q = s .0 h in
+                let w = with-book e b .0 (q .0) in
+                (w .0, plan-sized b p .0 (w .1 .0), head-none b p .0 (w .1 .1 .0), m .0 (q .1)),
+            λ h. s .1 (with-book e b .1 (h .0, (plan-sized b p .1 (h .1), (head-none b p .1 (h .2), tt))), m .1 (h .3)),
+          );
+      fault-8-to-11 = λ n v j low high.
+          let s = stage 7 (numbers n v j) (omega arith) low (omega arith) in
+          let t = tokens-is b p n v j low in (
+            λ h.
+                let q = s .0 h in
+                let w = with-book e b .0 (q .0) in
+                let r = t .0 (q .1) in
+                (w .0, record { sized = plan-sized b p .0 (w .1 .0); head = head-none b p .0 (w .1 .1 .0); whole = plan-ends b p .0 (w .1 .1 .1 .0) }, r .0, r .1),
+            λ h.
+                let g = h .1 in
+                s .1
+                (with-book e b .1 (h .0, (plan-sized b p .1 (g .sized), (head-none b p .1 (g .head), (plan-ends b p .1 (g .whole), tt)))), t .1 (h .2, h .3)),
+          );
+    })
+  where
+    stage : (i : ℕ) (z : Numbers) → i < 8 → from 1 (stagesOf e b p) i ≤ z .number → z .number < getD (stagesOf e b p) i noStage .0
+        → (firstOf (stagesOf e b p) last ≡ z) ↔ (Passed (take i (stagesOf e b p)) × (getD (stagesOf e b p) i noStage .1 ≡ z))
+    stage i z l = at-stage i 1 (stagesOf e b p) last z l (omega arith) (ordered e b p last own)
+
+-- the judge of a book and a plan
+pub judged-faults : (b p : List ℕ) → FaultTable 1 b p (judged b p)
+unfolding judged
+judged-faults b p = fault-table 1 b p (rulesFault atomHolds (lineOf p) (rulesOf atoms b)) (rules-own _ _ _)
+
+-- the direct judge of a sheet and a plan
+pub sheet-faults : (s p : List ℕ) → FaultTable 2 s p (judgedSheet s p)
+unfolding judgedSheet
+sheet-faults s p = fault-table 2 s p (rulesFault constraintHolds (lineOf p) (rulesOf constraints s)) (rules-own _ _ _)

@@ -1,0 +1,168 @@
+-- The judge's search finds a trigger token met just where the papers' definitions say that it is: some statement of the rule, with some
+-- token mapping, is satisfied. Asks for what is so of the rules of a sound book: at most four names, and terms of the kinds 0, 1, 2.
+-- Assumes nothing.
+use mathlib.Core.Path.{_≡_, refl, sym, ap, _∙_}
+use mathlib.Core.Bool.{Bool, true, false, _&&_, _||_, not, false≢true}
+use mathlib.Core.Logic.{_↔_, inl, inr, ⊎-elim}
+use mathlib.Core.List.{List, [], _∷_}
+use Prim.Native.Nat.{ℕ, zero, suc, _≤_, _<_}
+use native.Mathlib.Omega.{arith}
+use lib.IntN.{pos, subℕ}
+use lib.Signed.{leZ}
+use lib.Dec.{eqb}
+use lib.ListN.{length, getD}
+use borrow.Author.Tests.{eqb-true, eq-eqb}
+use Rattle.words.specs.Lists.{All}
+use Rattle.clock.specs.Clock.{noLimit}
+use Rattle.clock.proofs.Laws.{whole}
+use Rattle.book.specs.Rules.{Atom, Alternative, Rule}
+use Rattle.plan.specs.declared.Token.{Token}
+use Rattle.matching.specs.Met.{nobody, timeOf, atomHolds, met}
+use Rattle.matching.specs.Exists as exists
+use Rattle.claims.specs.Papers.{Evaluates, start, end, timestamp, Satisfied, On, noAtom, noStatement, Maps, Met}
+use Rattle.claims.specs.Decoded.{AlternativeFine, RuleFine}
+use Rattle.claims.specs.TranslatedRules.{AtomFine}
+use Rattle.claims.specs.WrongTests.{or-so}
+
+-- both are so
+pub and-so : (a c : Bool) → ((a && c) ≡ true) ↔ ((a ≡ true) × (c ≡ true))
+and-so true c = (λ h. (refl, h), λ h. h .1)
+and-so false c = (λ h. absurd (false≢true h), λ h. h .0)
+
+-- ---- elements of a list, told by their numbers
+
+module _ {A : Type 0} (P : A → Type 0) (d : A) where
+  -- a fact of each element is a fact of each number
+  pub all-at : (xs : List A) → All P xs ↔ ((i : ℕ) → i < length xs → P (getD xs i d))
+  all-at [] = (λ h i l. absurd (omega arith), λ h. tt)
+  all-at (x ∷ xs) =
+      let r = all-at xs in
+      (λ h. elim [ zero ↦ λ l. h .0 | suc i ↦ λ l. r .0 (h .1) i (omega arith) ], λ h. (h 0 (omega arith), r .1 (λ i l. h (suc i) (omega arith))))
+
+-- what stands at a number does not depend on what would stand past the end
+pub at-any : {A : Type 0} (xs : List A) (i : ℕ) (c d : A) → i < length xs → getD xs i c ≡ getD xs i d
+at-any [] i c d l = absurd (omega arith)
+at-any (x ∷ xs) zero c d l = refl
+at-any (x ∷ xs) (suc i) c d l = at-any xs i c d (omega arith)
+
+-- ---- terms and atoms
+
+module _ (trigger : Token) (tokens : List Token) (few : length tokens ≤ 4) where
+  -- the token mapping: the trigger's, then the names'
+  abbrev mapping : List Token
+  mapping = trigger ∷ tokens
+
+  -- the time of a term of kind 0, 1 or 2 is its evaluation
+  evaluates : (kind k : ℕ) → kind ≤ 2 → Evaluates mapping kind k (timeOf (exists.choiceOf trigger tokens) kind k)
+  unfolding timeOf
+  evaluates zero k l = rw (exists.choice-time trigger tokens k few .0) (start k)
+  evaluates (suc zero) k l = rw (exists.choice-time trigger tokens k few .1) (end k)
+  evaluates (suc (suc zero)) k l = timestamp k
+  evaluates (suc (suc (suc n))) k l = absurd (omega arith)
+
+  -- and there is no other
+  evaluation : (kind k x : ℕ) → Evaluates mapping kind k x → x ≡ timeOf (exists.choiceOf trigger tokens) kind k
+  unfolding timeOf
+  evaluation _ _ _ (start k) = sym (exists.choice-time trigger tokens k few .0)
+  evaluation _ _ _ (end k) = sym (exists.choice-time trigger tokens k few .1)
+  evaluation _ _ _ (timestamp k) = refl
+
+  -- an atom holds just where it is satisfied
+  atom-iff : (q : Atom) → q .leftKind ≤ 2 → q .rightKind ≤ 2 → (atomHolds (exists.choiceOf trigger tokens) q ≡ true) ↔ Satisfied mapping q
+  unfolding atomHolds
+  atom-iff q hl hr =
+      let c = exists.choiceOf trigger tokens in
+      let l : ℕ = timeOf c (q .leftKind) (q .left) in
+      let r : ℕ = timeOf c (q .rightKind) (q .right) in
+      let w = whole noLimit l r (q .lower) (q .upper) in
+      let a = and-so (leZ (pos (q .lower)) (subℕ r l)) (eqb (q .upper) noLimit || leZ (subℕ r l) (pos (q .upper))) in
+      let o = or-so (eqb (q .upper) noLimit) (leZ (subℕ r l) (pos (q .upper))) in (
+        λ h.
+            let s = a .0 (sym w ∙ h) in
+            record {
+              left = l;
+              right = r;
+              isLeft = evaluates (q .leftKind) (q .left) hl;
+              isRight = evaluates (q .rightKind) (q .right) hr;
+              lower = s .0;
+              upper = ⊎-elim (λ e. inl (eqb-true _ _ e)) (λ e. inr e) (o .0 (s .1));
+            },
+        λ s.
+            let el = evaluation (q .leftKind) (q .left) (s .left) (s .isLeft) in
+            let er = evaluation (q .rightKind) (q .right) (s .right) (s .isRight) in
+            w
+            ∙ a .1 (
+              rw (← el, ← er) (s .lower),
+              o .1 (⊎-elim (λ e. inl (eq-eqb _ _ e)) (λ e. inr (rw (← el, ← er) e)) (s .upper)),
+            ),
+      )
+
+-- ---- statements and rules
+
+-- an element by its number, and by being among them
+among-at : {A : Type 0} (xs : List A) (d : A) (i : ℕ) → i < length xs → exists.Among (getD xs i d) xs
+among-at xs d i l = record { index = i; within = l; here = at-any xs i (getD xs i d) d l }
+
+at-among : {A : Type 0} {x : A} {xs : List A} (d : A) (m : exists.Among x xs) → getD xs (m .index) d ≡ x
+at-among {x = x} {xs = xs} d m = at-any xs (m .index) d x (m .within) ∙ m .here
+
+-- of a timeline
+on-among : {line : List Token} {t : Token} → On line t → exists.Among t line
+on-among {line} {t} o = record { index = o .number; within = o .below; here = at-any line (o .number) t nobody (o .below) ∙ o .is }
+
+among-on : {line : List Token} {t : Token} → exists.Among t line → On line t
+among-on m = record { number = m .index; below = m .within; is = at-among nobody m }
+
+module _ (lines : ℕ → List Token) (trigger : Token) {b : List ℕ} {some : Bool} where
+  -- tokens meet an alternative just where the statement is satisfied with them
+  statement-iff : (a : Alternative Atom) (tokens : List Token) → AlternativeFine AtomFine 1 b some a
+      → exists.Meets atomHolds lines trigger a tokens ↔ Maps lines trigger a tokens
+  statement-iff a tokens fine =
+      let few = fine .fewNames in
+      let kinds = all-at (AtomFine (length (a .names)) some) noAtom (a .asks) .0 (fine .asks) in (
+        λ m.
+            let each = m .each in
+            record {
+              long = m .each;
+              on = λ i l. among-on (m .serve i (omega arith) .variable);
+              value = λ i l. m .serve i (omega arith) .value;
+              clause = λ j l.
+                  let k = kinds j l in
+                  atom-iff trigger tokens (omega arith) (getD (a .asks) j noAtom) (k .left .kinds) (k .right .kinds) .0 (m .hold _ (among-at (a .asks) noAtom j l));
+            },
+        λ m.
+            let long = m .long in
+            record {
+              each = m .long;
+              serve = λ i l. record { variable = on-among (m .on i (omega arith)); value = m .value i (omega arith) };
+              hold = λ q w.
+                  let k = kinds (w .index) (w .within) in
+                  ap (λ (x : Atom). atomHolds (exists.choiceOf trigger tokens) x) (sym (at-among noAtom w))
+                  ∙ atom-iff trigger tokens (omega arith) (getD (a .asks) (w .index) noAtom) (k .left .kinds) (k .right .kinds) .1 (m .clause (w .index) (w .within));
+            },
+      )
+
+-- THE LAW: the search's answer is true exactly if the trigger token is met, as Definition 2.11 says
+pub met-iff : (lines : ℕ → List Token) (b : List ℕ) (r : Rule Atom) → RuleFine AtomFine 1 b r → (t : Token) → (met atomHolds lines r t ≡ true) ↔ Met lines r t
+met-iff lines b r fine t =
+    let m = exists.met-iff atomHolds lines t r in
+    let fines = all-at (AlternativeFine AtomFine 1 b (not (eqb (r .variable) noLimit))) noStatement (r .alternatives) .0 (fine .alternatives) in (
+      λ h.
+          let s = m .0 h in
+          let o = s .ofRule in
+          let is : getD (r .alternatives) (o .index) noStatement ≡ s .alternative = at-among noStatement o in
+          record {
+            which = o .index;
+            below = o .within;
+            tokens = s .tokens;
+            maps = statement-iff lines t _ (s .tokens) (fines (o .index) (o .within)) .0 (rw is (s .meets));
+          },
+      λ q.
+          m .1
+          (record {
+            alternative = getD (r .alternatives) (q .which) noStatement;
+            tokens = q .tokens;
+            ofRule = among-at (r .alternatives) noStatement (q .which) (q .below);
+            meets = statement-iff lines t _ (q .tokens) (fines (q .which) (q .below)) .1 (q .maps);
+          }),
+    )

@@ -1,0 +1,114 @@
+-- What the papers define, over the decoded book and plan, as Types: state variable, token, timeline, plan, atom, existential statement,
+-- rule, and when a plan satisfies a rule. Numbers of definitions are those of source document 000. Assumes nothing.
+use mathlib.Core.Path.{_≡_}
+use mathlib.Core.Logic.{_⊎_}
+use mathlib.Core.Bool.{true}
+use mathlib.Core.List.{List, [], _∷_}
+use Prim.Native.Nat.{ℕ, suc, _+_, _-_, _≤_, _<_}
+use lib.IntN.{ℤ, pos, subℕ}
+use lib.Signed.{leZ}
+use lib.ListN.{length, getD}
+use Rattle.words.specs.Words.{inSet}
+use Rattle.clock.specs.Clock.{lastTick, noLimit}
+use Rattle.book.specs.Rules.{Value, Variable, Name, Atom, Alternative, Rule}
+use Rattle.plan.specs.declared.Token.{Token}
+use Rattle.matching.specs.Met.{nobody}
+
+-- ---- Definitions 2.1 to 2.4: state variables, tokens, timelines, plans
+
+abbrev pub noValue : Value
+noValue = record { least = 0; greatest = 0; successors = 0 }
+
+-- value v of the variable x; v is one of its values where v < length (x .values), its domain V_x
+abbrev pub valueOf : Variable → ℕ → Value
+valueOf x v = getD (x .values) v noValue
+
+-- D_x: value v of x may last d; "a maximum may be unbounded"
+pub record Lasts (x : Variable) (v d : ℕ) : Type 0 where
+  pub least : valueOf x v .least ≤ d
+  pub greatest : (valueOf x v .greatest ≡ noLimit) ⊎ (d ≤ valueOf x v .greatest)
+
+-- T_x: value w may follow value v
+pub record Follows (x : Variable) (v w : ℕ) : Type 0 where
+  pub bit : inSet (valueOf x v .successors) w ≡ true
+
+-- token i of a timeline
+abbrev pub tokenOf : List Token → ℕ → Token
+tokenOf line i = getD line i nobody
+
+-- "duration(τ)"
+abbrev pub durationOf : Token → ℕ
+durationOf t = t .end .tick - t .start .tick
+
+-- "each token keeps its value, length and successor and ends by the last tick"; its start is the sum of the durations before it
+pub record Timeline (x : Variable) (line : List Token) : Type 0 where
+  pub value : (i : ℕ) → i < length line → tokenOf line i .value < length (x .values)
+  pub lasts : (i : ℕ) → i < length line → Lasts x (tokenOf line i .value) (durationOf (tokenOf line i))
+  pub follows : (i : ℕ) → suc i < length line → Follows x (tokenOf line i .value) (tokenOf line (suc i) .value)
+  pub first : 0 < length line → tokenOf line 0 .start .tick ≡ 0
+  pub next : (i : ℕ) → suc i < length line → tokenOf line (suc i) .start .tick ≡ tokenOf line i .end .tick
+  pub forward : (i : ℕ) → i < length line → tokenOf line i .start .tick < tokenOf line i .end .tick
+  pub last : (i : ℕ) → i < length line → tokenOf line i .end .tick ≤ lastTick
+
+abbrev pub noVariable : Variable
+noVariable = record { values = [] }
+
+-- a plan over the state variables: a timeline for each. "Timelines may end at different times" (document 01), where Definition 2.4 asks for
+-- one horizon
+pub record Plan (variables : List Variable) (lines : ℕ → List Token) : Type 0 where
+  pub timeline : (x : ℕ) → x < length variables → Timeline (getD variables x noVariable) (lines x)
+
+-- ---- Definitions 2.5, 2.9: terms and atoms; name 0 is the trigger's, names 1, 2, .. the statement's
+
+-- "⟦T⟧": the time of a term under a token mapping (the trigger token, then the names' tokens)
+pub data Evaluates (mapping : List Token) : ℕ → ℕ → ℕ → Type 0 where
+  start : (name : ℕ) → Evaluates mapping 0 name (tokenOf mapping name .start .tick)
+  end : (name : ℕ) → Evaluates mapping 1 name (tokenOf mapping name .end .tick)
+  timestamp : (t : ℕ) → Evaluates mapping 2 t t
+
+-- "l ≤ ⟦T'⟧ - ⟦T⟧ ≤ u", on whole numbers; u may be unbounded
+pub record Satisfied (mapping : List Token) (atom : Atom) : Type 0 where
+  pub left : ℕ
+  pub right : ℕ
+  pub isLeft : Evaluates mapping (atom .leftKind) (atom .left) left
+  pub isRight : Evaluates mapping (atom .rightKind) (atom .right) right
+  pub lower : leZ (pos (atom .lower)) (subℕ right left) ≡ true
+  pub upper : (atom .upper ≡ noLimit) ⊎ (leZ (subℕ right left) (pos (atom .upper)) ≡ true)
+
+-- ---- Definitions 2.7, 2.10: existential statements
+
+-- the token t is one of the timeline
+pub record On (line : List Token) (t : Token) : Type 0 where
+  pub number : ℕ
+  pub below : number < length line
+  pub is : tokenOf line number ≡ t
+
+abbrev pub noName : Name
+noName = record { variable = 0; value = 0 }
+
+abbrev pub noAtom : Atom
+noAtom = record { leftKind = 0; left = 0; rightKind = 0; right = 0; lower = 0; upper = 0 }
+
+abbrev pub noStatement : Alternative Atom
+noStatement = record { names = []; asks = [] }
+
+-- "π ⊨_η E": each name is mapped to a token of the named variable and value, and the clause's atoms are satisfied
+pub record Maps (lines : ℕ → List Token) (trigger : Token) (statement : Alternative Atom) (tokens : List Token) : Type 0 where
+  pub long : length tokens ≡ length (statement .names)
+  pub on : (i : ℕ) → i < length tokens → On (lines (getD (statement .names) i noName .variable)) (tokenOf tokens i)
+  pub value : (i : ℕ) → i < length tokens → tokenOf tokens i .value ≡ getD (statement .names) i noName .value
+  pub clause : (j : ℕ) → j < length (statement .asks) → Satisfied (trigger ∷ tokens) (getD (statement .asks) j noAtom)
+
+-- ---- Definitions 2.8, 2.11: synchronisation rules
+
+-- some statement of the rule, with some token mapping, is satisfied for the trigger token
+pub record Met (lines : ℕ → List Token) (rule : Rule Atom) (trigger : Token) : Type 0 where
+  pub which : ℕ
+  pub below : which < length (rule .alternatives)
+  pub tokens : List Token
+  pub maps : Maps lines trigger (getD (rule .alternatives) which noStatement) tokens
+
+-- "π ⊨ R": "for any token τ0 ∈ π(x0), if val(τ0) = v0 then there is .."; a triggerless rule needs it once, for a trigger that no atom names
+pub record Satisfies (lines : ℕ → List Token) (rule : Rule Atom) : Type 0 where
+  pub triggered : (rule .variable ≡ noLimit → ⊥) → (t : Token) → On (lines (rule .variable)) t → t .value ≡ rule .value → Met lines rule t
+  pub triggerless : rule .variable ≡ noLimit → Met lines rule nobody

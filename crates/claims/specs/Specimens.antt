@@ -1,0 +1,135 @@
+-- The specimens of document 01 as one table: antt computes each answer, and it is the one stated. A row for every answer 0 to 12, so each
+-- "exactly if" of Faults and Accepted has an example here. Assumes nothing.
+use mathlib.Core.Path.{_≡_, refl}
+use mathlib.Core.Bool.{Bool, true, false, not, cond}
+use mathlib.Core.List.{List, [], _∷_, flatMap}
+use Prim.Native.Nat.{ℕ}
+use lib.Dec.{eqb}
+use lib.ListN.{take, set}
+use Rattle.answers.specs.declared.Numbers.{Numbers}
+use Rattle.answers.specs.Numbers.{numbers, orElse}
+use Rattle.words.specs.Lists.{any, all}
+use Rattle.words.specs.Words.{inSet}
+use Rattle.words.specs.Least.{least, first}
+use Rattle.words.specs.Runs.{run, rows}
+use Rattle.clock.specs.Clock.{noLimit, inBounds}
+use Rattle.book.specs.Layout.{fifthWidth, fifthMost, begins, headerWrong, starts, owner}
+use Rattle.book.specs.Wrong.{setWrong, valueTests, fifthTestsOf, fifthTests, recordWrong, leaves, tableWrong}
+use Rattle.book.specs.Fault as book
+use Rattle.book.specs.Rules.{nameAt, atomAt, constraintAt, alternativeAt, ruleAt, rulesOf}
+use Rattle.book.specs.Encode.{bookOf}
+use Rattle.book.specs.Specimen.{bookE, sheetE, same}
+use Rattle.plan.specs.Lines.{tokensFrom, lineOf}
+use Rattle.plan.specs.Fault as plan
+use Rattle.allen.specs.Relation.{relationOf}
+use Rattle.allen.specs.Atoms.{atomsOf}
+use Rattle.matching.specs.Met.{put, tokenTime, timeOf, atomHolds, constraintHolds, place, alternativeMet, met}
+use Rattle.verdict.specs.Judged.{counted, triggerLine, isTrigger, examined, unmet, firstUnmet, ruleUnmet, rulesFault, judged, judgedSheet}
+use Rattle.translator.specs.Expand.{keep, relationsIn, choices, atomsFor, expand, translate}
+use Rattle.translator.specs.Translation.{rulesFor, translated, tooMany, tooWide, ruleFault, sizeFault, roomFault, translation}
+
+-- "P1"
+abbrev pub planP1 : List ℕ
+planP1 = 1 ∷ 21 ∷ 2 ∷ 0 ∷ 3 ∷ 3 ∷ 4 ∷ 0 ∷ 10 ∷ 1 ∷ 30 ∷ 0 ∷ 10 ∷ 0 ∷ 10 ∷ 1 ∷ 20 ∷ 0 ∷ 10 ∷ 1 ∷ 10 ∷ []
+
+-- "P2"
+abbrev pub planP2 : List ℕ
+planP2 = 1 ∷ 19 ∷ 2 ∷ 0 ∷ 2 ∷ 2 ∷ 4 ∷ 0 ∷ 10 ∷ 1 ∷ 40 ∷ 0 ∷ 10 ∷ 1 ∷ 20 ∷ 0 ∷ 10 ∷ 1 ∷ 10 ∷ []
+
+-- "Empty plan"
+abbrev pub emptyPlan : List ℕ
+emptyPlan = 1 ∷ 7 ∷ 2 ∷ 0 ∷ 0 ∷ 0 ∷ 0 ∷ []
+
+-- "A rule without trigger, one alternative, no names, no atoms", over one variable with one value
+abbrev pub freeBook : List ℕ
+freeBook =
+    1 ∷ 27 ∷ 1 ∷ 14 ∷ 1 ∷ 16 ∷ 1 ∷ 19 ∷ 1 ∷ 23 ∷ 0 ∷ 27 ∷ 0 ∷ 27
+    ∷ 0 ∷ 1
+    ∷ 1 ∷ noLimit ∷ 1
+    ∷ noLimit ∷ 0 ∷ 0 ∷ 1
+    ∷ 0 ∷ 0 ∷ 0 ∷ 0 ∷ []
+
+-- "With one name"
+abbrev pub freeNamed : List ℕ
+freeNamed =
+    1 ∷ 29 ∷ 1 ∷ 14 ∷ 1 ∷ 16 ∷ 1 ∷ 19 ∷ 1 ∷ 23 ∷ 1 ∷ 27 ∷ 0 ∷ 29
+    ∷ 0 ∷ 1
+    ∷ 1 ∷ noLimit ∷ 1
+    ∷ noLimit ∷ 0 ∷ 0 ∷ 1
+    ∷ 0 ∷ 1 ∷ 0 ∷ 0
+    ∷ 0 ∷ 0 ∷ []
+
+-- the empty plan of their one variable
+abbrev pub emptyLine : List ℕ
+emptyLine = 1 ∷ 5 ∷ 1 ∷ 0 ∷ 0 ∷ []
+
+-- what document 01 says of an input
+pub data Specimen : Type 0 where
+  -- the judge's answer by a book, and by a sheet, to a plan
+  byBook : List ℕ → List ℕ → Numbers → Specimen
+  bySheet : List ℕ → List ℕ → Numbers → Specimen
+  -- the translator's answer to a sheet and so much room
+  into : List ℕ → ℕ → Numbers → Specimen
+  -- right minus left, by these two, within lower..upper or not
+  bounds : ℕ → ℕ → ℕ → ℕ → Bool → Specimen
+  -- the number of the relation of two stretches
+  stretches : ℕ → ℕ → ℕ → ℕ → ℕ → Specimen
+
+-- it is so
+abbrev pub stands : Specimen → Bool
+stands (byBook b p n) = same (judged b p) n
+stands (bySheet s p n) = same (judgedSheet s p) n
+stands (into s room n) = same (translation s room) n
+stands (bounds lower upper left right holds) = cond holds (inBounds noLimit left right lower upper) (not (inBounds noLimit left right lower upper))
+stands (stretches s e s' e' k) = eqb (relationOf s e s' e') k
+
+-- the table
+abbrev pub specimens : List Specimen
+specimens =
+    -- 0 and 12: P1, P2, the empty plan
+    byBook bookE planP1 (numbers 12 0 3)
+    ∷ byBook bookE planP2 (numbers 0 2 0)
+    ∷ byBook bookE emptyPlan (numbers 0 0 0)
+    -- 9: "P2 with the job of 20 at 4", "At 61"; "5 and 60 pass 9"
+    ∷ byBook bookE (set planP2 14 4) (numbers 9 1 1)
+    ∷ byBook bookE (set planP2 14 61) (numbers 9 1 1)
+    ∷ byBook bookE (set planP2 14 5) (numbers 0 2 0)
+    ∷ byBook bookE (set planP2 14 60) (numbers 12 0 1)
+    -- 10, 8, 11: "P2 with the second decoder token's value 0", "2", "duration 999,999,990 passes 11; 999,999,991"
+    ∷ byBook bookE (set planP2 9 0) (numbers 10 0 1)
+    ∷ byBook bookE (set planP2 9 2) (numbers 8 0 1)
+    ∷ byBook bookE (set planP2 10 999999990) (numbers 0 2 0)
+    ∷ byBook bookE (set planP2 10 999999991) (numbers 11 0 1)
+    -- "A rule without trigger, one alternative, no names, no atoms: met on the empty plan, counts 1. With one name: 12"
+    ∷ byBook freeBook emptyLine (numbers 0 1 0)
+    ∷ byBook freeNamed emptyLine (numbers 12 0 0)
+    -- 1 to 4: no book, a header word, an end elsewhere, a bad record, values that no variable uses
+    ∷ byBook [] planP2 (numbers 1 0 0)
+    ∷ byBook (set bookE 13 41) planP2 (numbers 2 13 0)
+    ∷ byBook (set bookE 12 1) planP2 (numbers 3 0 0)
+    ∷ byBook (set bookE 30 2) planP2 (numbers 4 2 0)
+    ∷ byBook (set bookE 17 1) planP2 (numbers 4 0 2)
+    -- 5 to 7: no plan, a wrong word before the tokens, tokens that end elsewhere
+    ∷ byBook bookE [] (numbers 5 0 0)
+    ∷ byBook bookE (set planP2 6 513) (numbers 6 6 0)
+    ∷ byBook bookE (set (take 17 planP2) 1 17) (numbers 7 0 0)
+    -- "Bounds 10..20: differences 9 and 21 fail, 10 and 20 hold"; a right that comes first fails
+    ∷ bounds 10 20 5 14 false
+    ∷ bounds 10 20 5 26 false
+    ∷ bounds 10 20 5 15 true
+    ∷ bounds 10 20 5 25 true
+    ∷ bounds 0 noLimit 7 3 false
+    -- "0..10 and 10..20 meet and aren't "before"": 1, and not 0
+    ∷ stretches 0 10 10 20 1
+    -- "E's rule as a sheet (trigger, name 1, set 864), 43 words: 0 106 4. Room 105: 15 106 0"; and the direct judge
+    ∷ into sheetE 106 (numbers 0 106 4)
+    ∷ into sheetE 105 (numbers 15 106 0)
+    ∷ bySheet sheetE planP1 (numbers 12 0 3)
+    ∷ bySheet sheetE planP2 (numbers 0 2 0)
+    ∷ bySheet sheetE (set planP2 14 4) (numbers 9 1 1)
+    ∷ []
+
+-- THE CLAIM: every specimen is as stated
+pub all-stand : all stands specimens ≡ true
+unfolding all any flatMap orElse least first run rows inSet inBounds fifthWidth fifthMost begins headerWrong starts owner setWrong valueTests fifthTestsOf fifthTests recordWrong leaves tableWrong book.lengthFault book.headerFault book.endFault book.recordFault book.bookFault nameAt atomAt constraintAt alternativeAt ruleAt rulesOf bookOf tokensFrom lineOf plan.lengthFault plan.sumBefore plan.headWrong plan.headFault plan.endFault plan.startOf plan.durationOutside plan.notSuccessor plan.tokenFault plan.tokenWrong plan.firstToken plan.lineWrong plan.tokensFault plan.planFault relationOf atomsOf put tokenTime timeOf atomHolds constraintHolds place alternativeMet met counted triggerLine isTrigger examined unmet firstUnmet ruleUnmet rulesFault judged judgedSheet keep relationsIn choices atomsFor expand translate rulesFor translated tooMany tooWide ruleFault sizeFault roomFault translation
+all-stand = refl

@@ -1,0 +1,164 @@
+-- Which sheets the translator takes: "a sheet is turned away exactly when it is unsound, passes a stated limit, or the room lent is too
+-- short". Assumes nothing.
+use mathlib.Core.Path.{_≡_, refl, ap, _∙_}
+use mathlib.Core.Bool.{Bool, true, false, cond, true≢false}
+use mathlib.Core.Logic.{_↔_, _⊎_, inl, inr, ⊎-elim}
+use mathlib.Core.List.{List}
+use Prim.Native.Nat.{ℕ, _≤_, _<_}
+use native.Mathlib.Decide.{decLe, ℕ-discrete}
+use native.Mathlib.Omega.{arith}
+use lib.Dec.{ltb}
+use lib.ListN.{length}
+use borrow.Author.Tests.{ltb-false, lt-ltb, le-ltb}
+use Rattle.answers.specs.declared.Numbers.{Numbers}
+use Rattle.answers.specs.Numbers.{numbers, noFault, orElse, else-fault, else-next}
+use Rattle.words.specs.Lists.{All}
+use Rattle.words.specs.Least.{first}
+use Rattle.book.specs.Rules.{Atom, Alternative, Rule}
+use Rattle.book.specs.Encode.{altsOf, namesOf, asksOf}
+use Rattle.book.specs.Fault.{bookFault}
+use Rattle.translator.specs.Translation.{rulesFor, translated, tooMany, tooWide, ruleFault, sizeFault, roomFault, translation}
+use Rattle.claims.specs.Laws.{none-any, none-first, stages}
+
+-- the limits of the tables 3, 4, 5 and of the total (14)
+pub record Sizes (s : List ℕ) : Type 0 where
+  pub alternatives : length (altsOf (rulesFor s)) ≤ 1024
+  pub names : length (namesOf (altsOf (rulesFor s))) ≤ 2048
+  pub atoms : length (asksOf (altsOf (rulesFor s))) ≤ 2048
+  pub words : length (translated s) ≤ 16384
+
+-- all stated limits: no rule "would have over 64 alternatives" (13), none has "an alternative of over 32 atoms" (16), and 14
+pub record Within (s : List ℕ) : Type 0 where
+  pub rules : All (λ (r : Rule Atom). length (r .alternatives) ≤ 64) (rulesFor s)
+  pub alternatives : All (λ (r : Rule Atom). All (λ (a : Alternative Atom). length (a .asks) ≤ 32) (r .alternatives)) (rulesFor s)
+  pub sizes : Sizes s
+
+-- ---- a stage has no fault
+
+at-most : (n x : ℕ) → (ltb n x ≡ false) ↔ (x ≤ n)
+at-most n x = (ltb-false n x, le-ltb n x)
+
+-- the fault is given where the test holds
+given : (t : Bool) (n a b : ℕ) (next : Numbers) → 1 ≤ n → (cond t (numbers n a b) next .number ≡ 0) ↔ ((t ≡ false) × (next .number ≡ 0))
+given true n a b next some = (λ h. absurd (omega arith), λ h. absurd (true≢false (h .0)))
+given false n a b next some = (λ h. (refl, h), λ h. h .1)
+
+rule-fault : (n : ℕ) → 1 ≤ n → (test : Rule Atom → Bool) (P : Rule Atom → Type 0) → ((r : Rule Atom) → (test r ≡ false) ↔ P r)
+    → (rules : List (Rule Atom)) → (ruleFault n test rules .number ≡ 0) ↔ All P rules
+unfolding ruleFault
+rule-fault n some test P iff rules =
+    let g = given (ltb (first test rules) (length rules)) n (first test rules) 0 noFault some in
+    let f = none-first test P iff rules in
+    (λ h. f .0 (ltb-false _ _ (g .0 h .0)), λ h. g .1 (le-ltb _ _ (f .1 h), refl))
+
+-- a stage gives this number or none
+abbrev Only : ℕ → Numbers → Type 0
+Only n x = (x .number ≡ 0) ⊎ (x .number ≡ n)
+
+only : (t : Bool) (n a b : ℕ) (next : Numbers) → Only n next → Only n (cond t (numbers n a b) next)
+only true n a b next h = inr refl
+only false n a b next h = h
+
+-- with those after it: this number is the answer's, or the answer is theirs
+stage-answer : (n : ℕ) → 1 ≤ n → (x y : Numbers) → Only n x → (orElse x y .number ≡ n) ⊎ ((x .number ≡ 0) × (orElse x y ≡ y))
+stage-answer n some x y h =
+    ⊎-elim (λ z. inr (z, else-next x y z)) (λ e. inl (ap (λ (r : Numbers). r .number) (else-fault x y (λ z. omega arith)) ∙ e)) h
+
+module _ (s : List ℕ) where
+  many-fault : (ruleFault 13 tooMany (rulesFor s) .number ≡ 0) ↔ All (λ (r : Rule Atom). length (r .alternatives) ≤ 64) (rulesFor s)
+  unfolding tooMany
+  many-fault = rule-fault 13 (omega arith) tooMany _ (λ r. at-most 64 (length (r .alternatives))) (rulesFor s)
+
+  wide-fault : (ruleFault 16 tooWide (rulesFor s) .number ≡ 0)
+      ↔ All (λ (r : Rule Atom). All (λ (a : Alternative Atom). length (a .asks) ≤ 32) (r .alternatives)) (rulesFor s)
+  unfolding tooWide
+  wide-fault = rule-fault 16 (omega arith) tooWide _ (λ r. none-any _ _ (λ (a : Alternative Atom). at-most 32 (length (a .asks))) (r .alternatives)) (rulesFor s)
+
+  size-fault : (sizeFault s .number ≡ 0) ↔ Sizes s
+  unfolding sizeFault
+  size-fault = let some : 1 ≤ 14 = omega arith in simp (given, at-most) (λ h. omega arith, λ h. omega arith)
+
+  room-fault : (room : ℕ) → (roomFault s room .number ≡ 0) ↔ (length (translated s) ≤ room)
+  unfolding roomFault
+  room-fault room = let some : 1 ≤ 15 = omega arith in simp (given, at-most) (λ h. h .0, λ h. (h, refl))
+
+  -- THE THEOREM: taken exactly when it is sound (not 1 to 4), within the limits (not 13, 14, 16), and the room is long enough (not 15)
+  pub taken : (room : ℕ) → (translation s room .number ≡ 0) ↔ ((bookFault 2 s .number ≡ 0) × Within s × (length (translated s) ≤ room))
+  unfolding translation
+  taken room =
+      simp (stages, many-fault, wide-fault, size-fault, room-fault) (
+        λ h. (h .0, record { rules = h .1 .0; alternatives = h .1 .1 .0; sizes = h .1 .1 .1 .0 }, h .1 .1 .1 .1 .0),
+        λ h. (h .0, (h .1 .rules, (h .1 .alternatives, (h .1 .sizes, (h .2, refl))))),
+      )
+
+  -- so it is "turned away exactly when it is unsound, passes a stated limit, or the room lent is too short"
+  pub turned-away : (room : ℕ) → (translation s room .number ≡ 0 → ⊥)
+      ↔ ((bookFault 2 s .number ≡ 0 → ⊥) ⊎ ((Within s → ⊥) ⊎ (room < length (translated s))))
+  turned-away room = (
+    λ h. elim (ℕ-discrete (bookFault 2 s .number) 0) [
+      | no n ↦ inl n
+      | yes q ↦ elim (decLe (length (translated s)) room) [ yes l ↦ inr (inl (λ w. h (taken room .1 (q, w, l)))) | no n ↦ inr (inr (omega arith)) ]
+    ],
+    λ h z.
+        let t = taken room .0 z in
+        let long = t .2 in
+        ⊎-elim (λ n. n (t .0)) (λ k. ⊎-elim (λ n. n (t .1)) (λ l. omega arith) k) h,
+  )
+
+  -- ---- and with which number
+
+  -- unsound: with the number 1 to 4 that the sheet has
+  pub unsound-answer : (room : ℕ) → (bookFault 2 s .number ≡ 0 → ⊥) → translation s room ≡ bookFault 2 s
+  unfolding translation
+  unsound-answer room h = else-fault _ _ h
+
+  rule-number : (n : ℕ) (test : Rule Atom → Bool) → Only n (ruleFault n test (rulesFor s))
+  unfolding ruleFault
+  rule-number n test = only (ltb (first test (rulesFor s)) (length (rulesFor s))) n (first test (rulesFor s)) 0 noFault (inl refl)
+
+  size-number : Only 14 (sizeFault s)
+  unfolding sizeFault
+  size-number =
+      let alts : List (Alternative Atom) = altsOf (rulesFor s) in
+      only (ltb 1024 (length alts)) 14 3 0 _
+      (only (ltb 2048 (length (namesOf alts))) 14 4 0 _
+      (only (ltb 2048 (length (asksOf alts))) 14 5 0 _ (only (ltb 16384 (length (translated s))) 14 6 0 noFault (inl refl))))
+
+  -- sound and within the limits: as the room is
+  sound-answer : (room : ℕ) → bookFault 2 s .number ≡ 0 → Within s
+      → translation s room ≡ orElse (roomFault s room) (numbers 0 (length (translated s)) (length (altsOf (rulesFor s))))
+  unfolding translation
+  sound-answer room q w =
+      else-next _ _ q
+      ∙ else-next _ _ (many-fault .1 (w .rules))
+      ∙ else-next _ _ (wide-fault .1 (w .alternatives))
+      ∙ else-next _ _ (size-fault .1 (w .sizes))
+
+  -- past a limit: with 13, 16 or 14
+  pub limit-answer : (room : ℕ) → bookFault 2 s .number ≡ 0 → (Within s → ⊥)
+      → (translation s room .number ≡ 13) ⊎ ((translation s room .number ≡ 16) ⊎ (translation s room .number ≡ 14))
+  unfolding translation
+  limit-answer room q h =
+      rw (else-next (bookFault 2 s) _ q)
+      (⊎-elim inl
+      (λ many. rw (many .1)
+      (inr (⊎-elim inl
+      (λ wide. rw (wide .1)
+      (inr (⊎-elim (λ e. e)
+      (λ size. absurd (h (record { rules = many-fault .0 (many .0); alternatives = wide-fault .0 (wide .0); sizes = size-fault .0 (size .0) })))
+      (stage-answer 14 (omega arith) (sizeFault s) _ size-number))))
+      (stage-answer 16 (omega arith) (ruleFault 16 tooWide (rulesFor s)) _ (rule-number 16 tooWide)))))
+      (stage-answer 13 (omega arith) (ruleFault 13 tooMany (rulesFor s)) _ (rule-number 13 tooMany)))
+
+  -- too little room: with 15 and the words needed
+  pub room-answer : (room : ℕ) → bookFault 2 s .number ≡ 0 → Within s → room < length (translated s)
+      → translation s room ≡ numbers 15 (length (translated s)) 0
+  unfolding translation roomFault orElse
+  room-answer room q w l = sound-answer room q w ∙ rw (lt-ltb room (length (translated s)) l)
+
+  -- taken: "0 done (a words written, b alternatives)"
+  pub done-answer : (room : ℕ) → translation s room .number ≡ 0
+      → translation s room ≡ numbers 0 (length (translated s)) (length (altsOf (rulesFor s)))
+  done-answer room h =
+      let t = taken room .0 h in
+      sound-answer room (t .0) (t .1) ∙ else-next _ _ (room-fault room .1 (t .2))

@@ -1,0 +1,156 @@
+-- The decoded timelines of a plan are timelines over the book's state variables, as the papers define them, just where every token keeps
+-- its value, length and successor and ends by the last tick. Asks for a sound book. Assumes nothing.
+use mathlib.Core.Path.{_≡_, refl, sym, ap, _∙_}
+use mathlib.Core.Bool.{true}
+use mathlib.Core.Logic.{_↔_, _⊎_, inl, inr, ⊎-elim}
+use mathlib.Core.List.{List}
+use Prim.Native.Nat.{ℕ, suc, _+_, _-_, _*_, _≤_, _<_}
+use native.Mathlib.Nat.{add-zero}
+use native.Mathlib.Omega.{arith}
+use lib.ListN.{length, getD}
+use Rattle.words.specs.Words.{word, inSet}
+use Rattle.words.specs.Runs.{length-run, run-at}
+use Rattle.clock.specs.Clock.{lastTick, noLimit}
+use Rattle.book.specs.Layout.{count, offset, field, valuesOf}
+use Rattle.book.specs.Sound.{Sound}
+use Rattle.book.specs.Inside.{in-range}
+use Rattle.book.specs.Rules.{Variable, valueAt, variableAt, variablesOf}
+use Rattle.plan.specs.declared.Token.{Token}
+use Rattle.plan.specs.Lines.{token, lineCount, lineOf}
+use Rattle.plan.specs.Fault as plan
+use Rattle.plan.specs.Laws.{line-length, line-token}
+use Rattle.plan.specs.Good.{TokenGood}
+use Rattle.matching.specs.Met.{nobody}
+use Rattle.claims.specs.Papers.{noValue, valueOf, Lasts, Follows, tokenOf, durationOf, Timeline, noVariable, Plan}
+
+-- token i may follow the token before it; "Any value may stand first"
+abbrev pub After : Variable → List Token → ℕ → Type 0
+After x line i = (j : ℕ) → suc j ≡ i → Follows x (tokenOf line j .value) (tokenOf line i .value)
+
+-- token i of a timeline over the state variable x "keeps its value, length and successor and ends by the last tick"
+pub record TokenKeeps (x : Variable) (line : List Token) (i : ℕ) : Type 0 where
+  pub value : tokenOf line i .value < length (x .values)
+  pub lasts : Lasts x (tokenOf line i .value) (durationOf (tokenOf line i))
+  pub follows : After x line i
+  pub last : tokenOf line i .end .tick ≤ lastTick
+
+-- ---- the book's state variables
+
+-- state variable v of the book
+abbrev pub variableOf : List ℕ → ℕ → Variable
+variableOf b v = getD (variablesOf b) v noVariable
+
+module _ (b : List ℕ) (v : ℕ) (here : v < count b 0) where
+  -- as its words say it
+  variable-at : variableOf b v ≡ variableAt b (offset b 0 + v * 2)
+  unfolding variablesOf
+  variable-at = run-at (variableAt b) 2 (count b 0) (offset b 0) v noVariable here
+
+  -- it has as many values
+  pub values-length : length (variableOf b v .values) ≡ valuesOf 1 b v
+  unfolding variableAt
+  values-length = rw variable-at (length-run _ _ _ _)
+
+  -- its value k stands in the book where the tests look
+  value-at : (k : ℕ) → k < valuesOf 1 b v → valueOf (variableOf b v) k ≡ valueAt b (plan.valuePlace b v k)
+  unfolding variableAt
+  value-at k l =
+      let place : offset b 1 + 3 * word b (offset b 0 + v * 2) + k * 3 ≡ plan.valuePlace b v k = omega (arith, ap (word b) (add-zero (offset b 0 + v * 2))) in
+      rw variable-at (rw place at (run-at (valueAt b) 3 (valuesOf 1 b v) (offset b 1 + 3 * word b (offset b 0 + v * 2)) k noValue l))
+
+  -- D_x and T_x are as the book's words have them
+  pub lasts-iff : (k d : ℕ) → k < valuesOf 1 b v
+      → Lasts (variableOf b v) k d ↔ ((word b (plan.valuePlace b v k) ≤ d) × ((word b (plan.valuePlace b v k + 1) ≡ noLimit) ⊎ (d ≤ word b (plan.valuePlace b v k + 1))))
+  unfolding valueAt
+  lasts-iff k d l =
+      let is = value-at k l in
+      (λ h. (rw is at (h .least), rw is at (h .greatest)), λ h. record { least = rw is (h .0); greatest = rw is (h .1) })
+
+  pub follows-iff : (k w : ℕ) → k < valuesOf 1 b v → Follows (variableOf b v) k w ↔ (inSet (word b (plan.valuePlace b v k + 2)) w ≡ true)
+  unfolding valueAt
+  follows-iff k w l =
+      let is = value-at k l in
+      (λ h. rw is at (h .bit), λ h. record { bit = rw is h })
+
+-- ---- a token keeps what the state variable asks just where none of the tests 8, 9, 10, 11 finds a fault
+
+module _ (b p : List ℕ) (v : ℕ) (here : v < count b 0) (j : ℕ) (there : j < lineCount p v)
+    (known : (i : ℕ) → suc i ≡ j → plan.valueOf p v i < valuesOf 1 b v) where
+  -- where the value before it is known
+  pub token-keeps : TokenGood b p v j ↔ TokenKeeps (variableOf b v) (lineOf p v) j
+  token-keeps =
+      let is = line-token p v j nobody there in
+      let long = values-length b v here in
+      let before : (i : ℕ) → suc i ≡ j → tokenOf (lineOf p v) i ≡ token (plan.valueOf p v i) (plan.startOf p v i) (plan.startOf p v i + plan.durationOf p v i) = λ i e.
+      line-token p v i nobody (omega arith) in
+      let took : plan.startOf p v j + plan.durationOf p v j - plan.startOf p v j ≡ plan.durationOf p v j = omega arith in (
+        λ g.
+            record {
+              value = rw (is, long) (g .known);
+              lasts = rw (is, took) (lasts-iff b v here _ _ (g .known) .1 (g .atLeast, ⊎-elim inr inl (g .atMost)));
+              follows = λ i e.
+                  let last : j - 1 ≡ i = omega arith in
+                  rw (is, before i e) (follows-iff b v here _ _ (known i e) .1 (rw last at (g .follows (λ z. omega arith))));
+              last = rw is (g .soon);
+            },
+        λ k.
+            let value : plan.valueOf p v j < valuesOf 1 b v = rw (is, long) at (k .value) in
+            let lasts = lasts-iff b v here _ _ value .0 (rw (is, took) at (k .lasts)) in
+            record {
+              known = value;
+              atLeast = lasts .0;
+              atMost = ⊎-elim inr inl (lasts .1);
+              follows = λ n.
+                  let at : suc (j - 1) ≡ j = omega arith in
+                  follows-iff b v here _ _ (known (j - 1) at) .0 (rw (is, before (j - 1) at) at (k .follows (j - 1) at));
+              soon = rw is at (k .last);
+            },
+      )
+
+-- ---- all tokens of all timelines
+
+module _ {e : ℕ} {b : List ℕ} (s : Sound e b) (p : List ℕ) where
+  -- a line whose tokens are good is a timeline
+  timeline-to : (v : ℕ) → v < count b 0 → ((j : ℕ) → j < lineCount p v → TokenGood b p v j) → Timeline (variableOf b v) (lineOf p v)
+  unfolding plan.startOf
+  timeline-to v l g =
+      let long = line-length p v in
+      let in-line : (i : ℕ) → i < length (lineOf p v) → i < lineCount p v = λ i h. omega arith in
+      let keeps : (i : ℕ) → i < lineCount p v → TokenKeeps (variableOf b v) (lineOf p v) i = λ i h.
+      token-keeps b p v l i h (λ k q. g k (omega arith) .known) .0 (g i h) in
+      let is : (i : ℕ) → i < lineCount p v → tokenOf (lineOf p v) i ≡ token (plan.valueOf p v i) (plan.startOf p v i) (plan.startOf p v i + plan.durationOf p v i) = λ i h. line-token p v i nobody h in
+      record {
+        value = λ i h. keeps i (in-line i h) .value;
+        lasts = λ i h. keeps i (in-line i h) .lasts;
+        follows = λ i h. keeps (suc i) (in-line (suc i) h) .follows i refl;
+        first = λ h. ap (λ (t : Token). t .start .tick) (is 0 (in-line 0 h));
+        next = λ i h.
+            ap (λ (t : Token). t .start .tick) (is (suc i) (in-line (suc i) h)) ∙ sym (ap (λ (t : Token). t .end .tick) (is i (omega arith)));
+        forward = λ i h.
+            let q = g i (in-line i h) in
+            let some = s .values (field e b 0 v 0 + plan.valueOf p v i) (in-range (s .variables v l) (plan.valueOf p v i) (q .known)) .durations .from in
+            let lasts = q .atLeast in
+            rw (is i (in-line i h)) (omega arith);
+        last = λ i h. keeps i (in-line i h) .last;
+      }
+
+  -- and back
+  timeline-from : (v : ℕ) → v < count b 0 → Timeline (variableOf b v) (lineOf p v) → (j : ℕ) → j < lineCount p v → TokenGood b p v j
+  timeline-from v l t j h =
+      let long = line-length p v in
+      let known : (i : ℕ) → suc i ≡ j → plan.valueOf p v i < valuesOf 1 b v = λ i q.
+      rw (line-token p v i nobody (omega arith), values-length b v l) at (t .value i (omega arith)) in
+      token-keeps b p v l j h known .1
+      (record {
+        value = t .value j (omega arith);
+        lasts = t .lasts j (omega arith);
+        follows = λ i q. rw (sym q) (t .follows i (omega arith));
+        last = t .last j (omega arith);
+      })
+
+  -- THE LAW: the decoded plan is a plan over the book's state variables just where every token is good
+  pub plan-iff : Plan (variablesOf b) (lineOf p) ↔ ((v : ℕ) → v < count b 0 → (j : ℕ) → j < lineCount p v → TokenGood b p v j)
+  unfolding variablesOf
+  plan-iff =
+      let long : length (variablesOf b) ≡ count b 0 = length-run (variableAt b) 2 (count b 0) (offset b 0) in
+      (λ q v l. timeline-from v l (q .timeline v (omega arith)), λ g. record { timeline = λ v l. timeline-to v (omega arith) (g v (omega arith)) })

@@ -1,0 +1,297 @@
+-- What is left of each table to count or to write, at item i of the list or rule i of the sheet, and the laws of a loop over them: one more,
+-- or none. Assumes nothing.
+use mathlib.Core.Path.{_≡_, refl, sym, ap, _∙_}
+use mathlib.Core.Bool.{Bool, true, false, _||_}
+use Prim.Native.Nat.{ℕ, zero, suc, _+_, _-_, _*_, _/_, _%_, _≤_, _<_}
+use native.Mathlib.Omega.{arith}
+use mathlib.Core.List.{List, [], _∷_, _++_, map, flatMap, append-assoc}
+use borrow.Author.Tests.{lt-ltb, le-ltb}
+use lib.Dec.{ltb}
+use lib.ListN.{length, getD, take, drop, length-append, length-map, length-drop}
+use lib.Seq.{take-at, drop-at, drop-drop}
+use Rattle.words.specs.Words.{word}
+use Rattle.words.specs.Lists.{any}
+use Rattle.words.specs.Least.{first}
+use Rattle.words.specs.Runs.{run, rows, length-run, run-at}
+use Rattle.book.specs.Layout.{count, offset}
+use Rattle.book.specs.Rules.{Atom, Alternative, nameAt}
+use Rattle.book.specs.Encode.{nameWords, atomWords, alternativeRows, ruleRows, namesOf, asksOf}
+use Rattle.allen.specs.Atoms.{atomsOf}
+use Rattle.translator.specs.Translation.{tooWide}
+use Rattle.translator.specs.Going.{gather, gather-all, gather-more, run-more, run-none, drop-more, drop-none, seek-start, seek-miss}
+use Rattle.translator.specs.Compare.{relationWords}
+use Rattle.translator.specs.Items.{asksFrom, namesFor, asksFor, altOf, ruleItems, allItems, ruleFor, rulesBy, below-at}
+use Rattle.translator.specs.Listed.{sizesFrom}
+
+pub flat-append : {A B : Type 0} (f : A → List B) (xs ys : List A) → flatMap f (xs ++ ys) ≡ flatMap f xs ++ flatMap f ys
+unfolding flatMap
+flat-append f [] ys = refl
+flat-append f (x ∷ xs) ys = rw (flat-append f xs ys) (sym (append-assoc (f x) (flatMap f xs) (flatMap f ys)))
+
+-- ---- one item
+
+-- the words of the n - i names that are left, the first at the place q
+unfoldable pub nameWordsFrom : List ℕ → ℕ → ℕ → ℕ → List ℕ
+nameWordsFrom s n i q = flatMap nameWords (run (nameAt s) 2 (n - i) q)
+
+-- the words of the atoms of the k - i constraints that are left
+unfoldable pub atomWordsFrom : List ℕ → ℕ → ℕ → ℕ → ℕ → List ℕ
+atomWordsFrom s k i q code = flatMap atomWords (asksFrom s (k - i) q code)
+
+-- how many these are: the place does not matter
+unfoldable pub countFrom : ℕ → ℕ → ℕ
+countFrom zero code = 0
+countFrom (suc k) code = length (atomsOf (code % 16) 0 0) + countFrom k (code / 16)
+
+-- the words of the names and of the atoms of an item
+unfoldable pub itemNames : List ℕ → ℕ → List ℕ
+itemNames s item = flatMap nameWords (altOf s item .names)
+
+unfoldable pub itemAtoms : List ℕ → ℕ → List ℕ
+itemAtoms s item = flatMap atomWords (altOf s item .asks)
+
+module _ (s : List ℕ) where
+  pub name-words-more : (n i q : ℕ) → i < n → nameWordsFrom s n i q ≡ (word s q ∷ word s (q + 1) ∷ []) ++ nameWordsFrom s n (i + 1) (q + 2)
+  unfolding nameWordsFrom flatMap nameAt
+  name-words-more n i q l = rw (run-more (nameAt s) 2 n i q l)
+
+  pub name-words-none : (n i q : ℕ) → n ≤ i → nameWordsFrom s n i q ≡ []
+  unfolding nameWordsFrom flatMap
+  name-words-none n i q l = rw (run-none (nameAt s) 2 n i q l)
+
+  pub name-words-all : (item at n : ℕ) → at ≡ offset s 4 + 2 * word s (item % 16384) → n ≡ word s (item % 16384 + 1) → itemNames s item ≡ nameWordsFrom s n 0 at
+  unfolding itemNames nameWordsFrom altOf namesFor
+  name-words-all item at n ha hn =
+      let e : n - 0 ≡ n = omega arith in
+      rw (e, ha, hn)
+
+  pub atom-words-more : (k i q code l r : ℕ) → i < k → l ≡ word s q → r ≡ word s (q + 1)
+      → atomWordsFrom s k i q code ≡ relationWords (code % 16) l r ++ atomWordsFrom s k (i + 1) (q + 3) (code / 16)
+  unfolding atomWordsFrom asksFrom relationWords
+  atom-words-more k i q code l r lt hl hr =
+      let e : k - i ≡ suc (k - (i + 1)) = omega arith in
+      rw (e, hl, hr) (flat-append atomWords (atomsOf (code % 16) (word s q) (word s (q + 1))) (asksFrom s (k - (i + 1)) (q + 3) (code / 16)))
+
+  pub atom-words-none : (k i q code : ℕ) → k ≤ i → atomWordsFrom s k i q code ≡ []
+  unfolding atomWordsFrom asksFrom flatMap
+  atom-words-none k i q code l =
+      let e : k - i ≡ 0 = omega arith in
+      rw e
+
+  pub atom-words-all : (item q k code : ℕ) → q ≡ offset s 5 + 3 * word s (item % 16384 + 2) → k ≡ word s (item % 16384 + 3) → code ≡ item / 16384
+      → itemAtoms s item ≡ atomWordsFrom s k 0 q code
+  unfolding itemAtoms atomWordsFrom altOf asksFor
+  atom-words-all item q k code hq hk hc =
+      let e : k - 0 ≡ k = omega arith in
+      rw (e, hq, hk, hc)
+
+-- ---- how many atoms
+
+-- a relation's atoms are as many for any two tokens: a table of sixteen numbers
+abbrev pub sizes : List ℕ
+sizes = 1 ∷ 1 ∷ 3 ∷ 2 ∷ 2 ∷ 2 ∷ 2 ∷ 2 ∷ 2 ∷ 2 ∷ 3 ∷ 1 ∷ 1 ∷ 0 ∷ 0 ∷ 0 ∷ []
+
+pub size-is : (x l r : ℕ) → x < 16 → length (atomsOf x l r) ≡ getD sizes x 0
+unfolding atomsOf
+size-is x l r h =
+    below-at (λ (x : ℕ). length (atomsOf x l r) ≡ getD sizes x 0)
+    16 x (refl, (refl, (refl, (refl, (refl, (refl, (refl, (refl, (refl, (refl, (refl, (refl, (refl, (refl, (refl, (refl, tt)))))))))))))))) h
+
+pub size-small : (x : ℕ) → x < 16 → getD sizes x 0 ≤ 3
+size-small x h =
+    below-at (λ (x : ℕ). getD sizes x 0 ≤ 3)
+    16 x (omega arith, (omega arith, (omega arith, (omega arith, (omega arith, (omega arith, (omega arith, (omega arith, (omega arith, (omega arith, (omega arith, (omega arith, (omega arith, (omega arith, (omega arith, (omega arith, tt)))))))))))))))) h
+
+pub count-is : (s : List ℕ) (k at code : ℕ) → length (asksFrom s k at code) ≡ countFrom k code
+unfolding asksFrom countFrom
+count-is s zero at code = refl
+count-is s (suc k) at code =
+    length-append (atomsOf (code % 16) (word s at) (word s (at + 1))) (asksFrom s k (at + 3) (code / 16))
+    ∙ rw (count-is s k (at + 3) (code / 16), size-is (code % 16) (word s at) (word s (at + 1)) (omega arith), size-is (code % 16) 0 0 (omega arith))
+
+pub count-more : (k i code : ℕ) → i < k → countFrom (k - i) code ≡ getD sizes (code % 16) 0 + countFrom (k - (i + 1)) (code / 16)
+unfolding countFrom
+count-more k i code l =
+    let e : k - i ≡ suc (k - (i + 1)) = omega arith in
+    rw (e, size-is (code % 16) 0 0 (omega arith))
+
+pub count-none : (k i code : ℕ) → k ≤ i → countFrom (k - i) code ≡ 0
+unfolding countFrom
+count-none k i code l =
+    let e : k - i ≡ 0 = omega arith in
+    rw e
+
+pub count-all : (k code : ℕ) → countFrom k code ≡ countFrom (k - 0) code
+count-all k code =
+    let e : k - 0 ≡ k = omega arith in
+    rw e
+
+pub item-count : (s : List ℕ) (item k : ℕ) → k ≡ word s (item % 16384 + 3) → length (altOf s item .asks) ≡ countFrom k (item / 16384)
+unfolding altOf asksFor
+item-count s item k h = rw h (count-is s (word s (item % 16384 + 3)) (offset s 5 + 3 * word s (item % 16384 + 2)) (item / 16384))
+
+pub item-named : (s : List ℕ) (item : ℕ) → length (altOf s item .names) ≡ word s (item % 16384 + 1)
+unfolding altOf namesFor
+item-named s item = length-run (nameAt s) 2 (word s (item % 16384 + 1)) (offset s 4 + 2 * word s (item % 16384))
+
+-- ---- all items from item i on
+
+module _ (s list : List ℕ) where
+  unfoldable pub altsLeft : ℕ → List (Alternative Atom)
+  altsLeft i = map (altOf s) (drop i list)
+
+  unfoldable pub namesLeft : ℕ → List ℕ
+  namesLeft i = flatMap nameWords (namesOf (altsLeft i))
+
+  unfoldable pub atomsLeft : ℕ → List ℕ
+  atomsLeft i = flatMap atomWords (asksOf (altsLeft i))
+
+  unfoldable pub rowsLeft : ℕ → ℕ → ℕ → List ℕ
+  rowsLeft i name atom = alternativeRows (name, atom) (altsLeft i)
+
+  unfoldable pub nameCount : ℕ → ℕ
+  nameCount i = length (namesOf (altsLeft i))
+
+  unfoldable pub atomCount : ℕ → ℕ
+  atomCount i = length (asksOf (altsLeft i))
+
+  unfoldable pub wideLeft : ℕ → Bool
+  wideLeft i = any (λ (a : Alternative Atom). ltb 32 (length (a .asks))) (altsLeft i)
+
+  module _ (i : ℕ) (l : i < length list) where
+    alts-more : altsLeft i ≡ altOf s (getD list i 0) ∷ altsLeft (i + 1)
+    unfolding altsLeft
+    alts-more = rw (drop-more list i l)
+
+    pub names-more : namesLeft i ≡ itemNames s (getD list i 0) ++ namesLeft (i + 1)
+    unfolding namesLeft itemNames flatMap
+    names-more = rw alts-more (flat-append nameWords (altOf s (getD list i 0) .names) (namesOf (altsLeft (i + 1))))
+
+    pub atoms-more : atomsLeft i ≡ itemAtoms s (getD list i 0) ++ atomsLeft (i + 1)
+    unfolding atomsLeft itemAtoms flatMap
+    atoms-more = rw alts-more (flat-append atomWords (altOf s (getD list i 0) .asks) (asksOf (altsLeft (i + 1))))
+
+    pub rows-more : (name atom n k : ℕ) → n ≡ length (altOf s (getD list i 0) .names) → k ≡ length (altOf s (getD list i 0) .asks)
+        → rowsLeft i name atom ≡ (name ∷ n ∷ atom ∷ k ∷ []) ++ rowsLeft (i + 1) (name + n) (atom + k)
+    unfolding rowsLeft rows
+    rows-more name atom n k hn hk = rw (alts-more, hn, hk)
+
+    pub name-count-more : nameCount i ≡ length (altOf s (getD list i 0) .names) + nameCount (i + 1)
+    unfolding nameCount flatMap
+    name-count-more = rw alts-more (length-append (altOf s (getD list i 0) .names) (namesOf (altsLeft (i + 1))))
+
+    pub atom-count-more : atomCount i ≡ length (altOf s (getD list i 0) .asks) + atomCount (i + 1)
+    unfolding atomCount flatMap
+    atom-count-more = rw alts-more (length-append (altOf s (getD list i 0) .asks) (asksOf (altsLeft (i + 1))))
+
+    wide-more : wideLeft i ≡ (ltb 32 (length (altOf s (getD list i 0) .asks)) || wideLeft (i + 1))
+    unfolding wideLeft any
+    wide-more = rw alts-more
+
+    pub wide-hit : (n : ℕ) → n ≡ length (altOf s (getD list i 0) .asks) → 32 < n → wideLeft i ≡ true
+    wide-hit n e h = wide-more ∙ rw (← e, lt-ltb 32 n h)
+
+    pub wide-miss : (n : ℕ) → n ≡ length (altOf s (getD list i 0) .asks) → n ≤ 32 → wideLeft i ≡ wideLeft (i + 1)
+    wide-miss n e h = wide-more ∙ rw (← e, le-ltb 32 n h)
+
+  module _ (i : ℕ) (l : length list ≤ i) where
+    alts-none : altsLeft i ≡ []
+    unfolding altsLeft
+    alts-none = rw (drop-none list i l)
+
+    pub names-none : namesLeft i ≡ []
+    unfolding namesLeft flatMap
+    names-none = rw alts-none
+
+    pub atoms-none : atomsLeft i ≡ []
+    unfolding atomsLeft flatMap
+    atoms-none = rw alts-none
+
+    pub rows-none : (name atom : ℕ) → rowsLeft i name atom ≡ []
+    unfolding rowsLeft rows
+    rows-none name atom = rw alts-none
+
+    pub name-count-none : nameCount i ≡ 0
+    unfolding nameCount flatMap
+    name-count-none = rw alts-none
+
+    pub atom-count-none : atomCount i ≡ 0
+    unfolding atomCount flatMap
+    atom-count-none = rw alts-none
+
+    pub wide-none : wideLeft i ≡ false
+    unfolding wideLeft any
+    wide-none = rw alts-none
+
+-- ---- all rules from rule i on, of n, at the place q; the next alternative is number k
+
+unfoldable pub rulesLeft : List ℕ → ℕ → ℕ → ℕ → ℕ → List ℕ
+rulesLeft s n i q k = ruleRows k (run (ruleFor s) 4 (n - i) q)
+
+module _ (s : List ℕ) (n i q k : ℕ) where
+  pub rules-more : i < n → (a v m : ℕ) → a ≡ word s q → v ≡ word s (q + 1) → m ≡ length (ruleItems s q)
+      → rulesLeft s n i q k ≡ (a ∷ v ∷ k ∷ m ∷ []) ++ rulesLeft s n (i + 1) (q + 4) (k + m)
+  unfolding rulesLeft rows ruleFor
+  rules-more l a v m ha hv hm = rw (run-more (ruleFor s) 4 n i q l, ha, hv, hm, length-map (ruleItems s q) (altOf s))
+
+  pub rules-none : n ≤ i → rulesLeft s n i q k ≡ []
+  unfolding rulesLeft rows
+  rules-none l = rw (run-none (ruleFor s) 4 n i q l)
+
+-- ---- a rule's number of items, and its part of the list
+
+pub gather-long : (f : ℕ → List ℕ) (w n i q : ℕ) → i < n → length (gather f w (n - i) q) ≡ length (f q) + length (gather f w (n - (i + 1)) (q + w))
+gather-long f w n i q l = ap length (gather-more f w n i q l) ∙ length-append (f q) (gather f w (n - (i + 1)) (q + w))
+
+module _ (s numbers : List ℕ) (n o : ℕ) (h : numbers ≡ sizesFrom s n o) where
+  -- as many numbers as rules
+  pub sizes-long : length numbers ≡ n
+  unfolding sizesFrom
+  sizes-long = ap length h ∙ length-run (λ (k : ℕ). length (ruleItems s k)) 4 n o
+
+  -- number i is that of rule i
+  pub sizes-at : (i q : ℕ) → i < length numbers → q ≡ o + i * 4 → getD numbers i 0 ≡ length (ruleItems s q)
+  unfolding sizesFrom
+  sizes-at i q l e = rw (h, e) (run-at (λ (k : ℕ). length (ruleItems s k)) 4 n o i 0 (omega (arith, sizes-long)))
+
+  -- rule i's part of the list, from m to e
+  module _ (list : List ℕ) (m i e : ℕ) (l : i < length numbers) (he : e ≡ m + getD numbers i 0) (left : drop m list ≡ gather (ruleItems s) 4 (n - i) (o + i * 4)) where
+    more : drop m list ≡ ruleItems s (o + i * 4) ++ gather (ruleItems s) 4 (n - (i + 1)) (o + i * 4 + 4)
+    more = left ∙ gather-more (ruleItems s) 4 n i (o + i * 4) (omega (arith, sizes-long))
+
+    long : length (ruleItems s (o + i * 4)) ≡ e - m
+    long = omega (arith, sizes-at i (o + i * 4) l refl)
+
+    pub part-inside : m ≤ length list → e ≤ length list
+    part-inside h =
+        omega (arith, length-drop m list, ap length more, length-append (ruleItems s (o + i * 4)) (gather (ruleItems s) 4 (n - (i + 1)) (o + i * 4 + 4)), long)
+
+    part-is : take (e - m) (drop m list) ≡ ruleItems s (o + i * 4)
+    part-is = ap (take (e - m)) more ∙ take-at (ruleItems s (o + i * 4)) _ (e - m) long
+
+    pub part-wide : (f t : Bool) → f ≡ wideLeft s (take (e - m) (drop m list)) 0 → f ≡ t → tooWide (ruleFor s (o + i * 4)) ≡ t
+    unfolding tooWide ruleFor wideLeft altsLeft
+    part-wide f t hf ht = ap (λ (x : List ℕ). wideLeft s x 0) (sym part-is) ∙ sym hf ∙ ht
+
+    pub part-next : drop e list ≡ gather (ruleItems s) 4 (n - (i + 1)) (o + (i + 1) * 4)
+    part-next =
+        let rest : List ℕ = gather (ruleItems s) 4 (n - (i + 1)) (o + i * 4 + 4) in
+        let at : o + i * 4 + 4 ≡ o + (i + 1) * 4 = omega arith in
+        let sum : m + (e - m) ≡ e = omega arith in
+        rw (← at) (rw sum at (sym (drop-drop (e - m) m list)) ∙ ap (drop (e - m)) more ∙ drop-at (ruleItems s (o + i * 4)) rest (e - m) long)
+
+-- what the search for a wide rule starts with, and how it goes on
+module _ (s : List ℕ) where
+  pub wide-start : (list : List ℕ) → list ≡ allItems s
+      → (drop 0 list ≡ gather (ruleItems s) 4 (count s 2 - 0) (offset s 2 + 0 * 4))
+      × (first tooWide (rulesBy s) ≡ 0 + first tooWide (run (ruleFor s) 4 (count s 2 - 0) (offset s 2 + 0 * 4)))
+  unfolding allItems rulesBy
+  wide-start list e =
+      let o : offset s 2 + 0 * 4 ≡ offset s 2 = omega arith in
+      rw o (e ∙ gather-all (ruleItems s) 4 (count s 2) (offset s 2), seek-start tooWide (ruleFor s) 4 (count s 2) (offset s 2))
+
+  pub wide-next : (n o i whole : ℕ) → whole ≡ i + first tooWide (run (ruleFor s) 4 (n - i) (o + i * 4)) → i < n → tooWide (ruleFor s (o + i * 4)) ≡ false
+      → whole ≡ i + 1 + first tooWide (run (ruleFor s) 4 (n - (i + 1)) (o + (i + 1) * 4))
+  wide-next n o i whole h l e =
+      let at : o + i * 4 + 4 ≡ o + (i + 1) * 4 = omega arith in
+      rw (← at) (seek-miss tooWide (ruleFor s) 4 n i (o + i * 4) whole h l e)

@@ -1,0 +1,540 @@
+// The translator: from a sheet of relations to the book of rules that says the same, in lent words.
+ghost use mathlib.Core.Path.{_≡_};
+ghost use Prim.Native.Nat.{ℕ, _+_, _*_, _-_, _^_, _<_, _≤_};
+ghost use mathlib.Core.List.{[], _∷_};
+ghost use lib.ListN.{length, getD};
+ghost use Rattle.words.specs.Words.{word};
+ghost use Rattle.answers.specs.Numbers.{numbersOf};
+ghost use Rattle.words.specs.Least.{first};
+ghost use Rattle.words.specs.Write.{Wrote, Has};
+ghost use Rattle.book.specs.Layout.{count, offset};
+ghost use Rattle.translator.specs.Going.{gather, upTo};
+ghost use Rattle.translator.specs.Items.{itemsFrom, itemsAt, allItems, altOf, rulesBy, Digits};
+ghost use Rattle.translator.specs.Listed.{Fits, ListedIs, sizesFrom};
+ghost use Rattle.translator.specs.Compare.{side, upper, compared, relationWords};
+ghost use Rattle.translator.specs.Left.{sizes, countFrom, itemNames, itemAtoms, namesLeft, atomsLeft, rowsLeft, rulesLeft, nameCount, atomCount, wideLeft};
+ghost use Rattle.translator.specs.Whole.{head, tablesBy, Ready, Counted};
+ghost use Rattle.translator.specs.Translation.{tooMany, tooWide, translated, translation, roomAfter};
+ghost use Rattle.translator.specs.Outcome.{Passed, longTable};
+use answers::Answer;
+
+// Lists the choices of the k constraints that remain, the first of which stands at `at`, with relations from x on for that
+// one: an item for each, the last constraint turning fastest. `acc` has what was chosen before, and m is the worth of the
+// next digit. Stops at the limit. Answers how many items there are now.
+fn list_choices(
+    s: &[u32],
+    k: usize,
+    at: usize,
+    acc: u64,
+    m: u64,
+    x: u32,
+    limit: usize,
+    out: &mut [u64; 4097],
+    n: usize,
+) -> usize
+    requires { ⌜ (at + 3 * k < 2 ^ 40) × (Digits k m × ((acc < m) × (limit ≤ 4097))) ⌝ }
+    ensures { λ r. ⌜ Wrote (now (out .entry)) (now (out .exit)) n r (upTo limit n (itemsFrom (now (s .entry)) k at acc m x)) ⌝ }
+{
+    if n >= limit {
+        return n;
+    }
+    if k == 0 {
+        out[n] = acc;
+        return n + 1;
+    }
+    if x < 13 {
+        if words::in_set(words::word_at(s, at + 2), x) {
+            let a = list_choices(
+                s,
+                k - 1,
+                at + 3,
+                acc + m * (x as u64),
+                m * 16,
+                0,
+                limit,
+                out,
+                n,
+            );
+            return list_choices(s, k, at, acc, m, x + 1, limit, out, a);
+        }
+        return list_choices(s, k, at, acc, m, x + 1, limit, out, n);
+    }
+    n
+}
+
+// Lists the choices of n alternatives, the first of which stands at `at`, up to the limit.
+fn list_alternatives(
+    s: &[u32],
+    n: usize,
+    at: usize,
+    limit: usize,
+    out: &mut [u64; 4097],
+    from: usize,
+) -> usize
+    requires { ⌜ (at + 4 * n ≤ 16384) × ((limit ≤ 4097) × ((j : ℕ) → j < n → word (now s) (at + 4 * j + 3) ≤ 8)) ⌝ }
+    ensures { λ r. ⌜ Wrote (now (out .entry)) (now (out .exit)) from r (upTo limit from (gather (itemsAt (now (s .entry))) 4 n at)) ⌝ }
+{
+    let base = words::number_at(s, 13);
+    let mut m = from;
+    let mut p = at;
+    let mut i = 0;
+    while i < n {
+        let part = words::number_at(s, p + 2);
+        let k = words::number_at(s, p + 3);
+        m = list_choices(s, k, base + 3 * part, p as u64, 16384, 0, limit, out, m);
+        p += 4;
+        i += 1;
+    }
+    m
+}
+
+// The first rule that would have over 64 alternatives, or the number of rules; and how many items are listed.
+struct Listed {
+    rule: usize,
+    items: usize,
+}
+
+// Lists the choices of all rules, and how many each rule has, up to the first rule that has too many.
+fn list_rules(s: &[u32], out: &mut [u64; 4097], numbers: &mut [u32; 64]) -> Listed
+    requires { ⌜ Fits (now s) × ((length (now out) ≡ 4097) × (length (now numbers) ≡ 64)) ⌝ }
+    ensures { λ r. ⌜ ListedIs (now (s .entry)) (now (out .exit)) (now (numbers .exit)) (r .rule) (r .items) ⌝ }
+{
+    let rules = words::number_at(s, 6);
+    let base = words::number_at(s, 9);
+    let mut q = words::number_at(s, 7);
+    let mut n = 0;
+    let mut i = 0;
+    while i < rules {
+        let part = words::number_at(s, q + 2);
+        let k = words::number_at(s, q + 3);
+        let m = list_alternatives(s, k, base + 4 * part, n + 65, out, n);
+        let added = m - n;
+        if added > 64 {
+            return Listed { rule: i, items: n };
+        }
+        numbers[i] = added as u32;
+        n = m;
+        q += 4;
+        i += 1;
+    }
+    Listed { rule: i, items: n }
+}
+
+// How many atoms each relation becomes, by its number; the last three stand for no relation.
+const SIZES: [usize; 16] = [1, 1, 3, 2, 2, 2, 2, 2, 2, 2, 3, 1, 1, 0, 0, 0];
+
+// How many atoms relation x becomes.
+fn size(x: usize) -> usize
+    requires { ⌜ x < 16 ⌝ }
+    ensures { λ r. ⌜ (r ≡ getD sizes x 0) × (r ≤ 3) ⌝ }
+{
+    SIZES[x]
+}
+
+// How many atoms k relations become, the digits of the code.
+fn count_digits(k: usize, code: u64) -> usize
+    requires { ⌜ k < 2 ^ 32 ⌝ }
+    ensures { λ r. ⌜ (r ≡ countFrom k code) × (r < 2 ^ 34) ⌝ }
+{
+    let mut n = 0;
+    let mut left = code;
+    let mut i = 0;
+    while i < k {
+        n += size((left % 16) as usize);
+        left = left / 16;
+        i += 1;
+    }
+    n
+}
+
+// How many names an item has.
+fn count_names(s: &[u32], item: u64) -> usize
+    ensures { λ r. ⌜ (r ≡ length (altOf (now (s .entry)) item .names)) × (r < 2 ^ 32) ⌝ }
+{
+    let p = (item % 16384) as usize;
+    words::number_at(s, p + 1)
+}
+
+// How many atoms an item has.
+fn count_atoms(s: &[u32], item: u64) -> usize
+    ensures { λ r. ⌜ (r ≡ length (altOf (now (s .entry)) item .asks)) × (r < 2 ^ 34) ⌝ }
+{
+    let p = (item % 16384) as usize;
+    count_digits(words::number_at(s, p + 3), item / 16384)
+}
+
+// How many names and how many atoms there are together.
+struct Totals {
+    names: usize,
+    atoms: usize,
+}
+
+// Those of all items.
+fn count_all(s: &[u32], list: &[u64]) -> Totals
+    requires { ⌜ length (now list) ≤ 4096 ⌝ }
+    ensures { λ r. ⌜ (r .names ≡ nameCount (now (s .entry)) (now (list .entry)) 0) × (r .atoms ≡ atomCount (now (s .entry)) (now (list .entry)) 0) ⌝ }
+    ensures { λ r. ⌜ (r .names < 2 ^ 45) × (r .atoms < 2 ^ 47) ⌝ }
+{
+    let mut names = 0;
+    let mut atoms = 0;
+    let mut i = 0;
+    while i < list.len() {
+        names += count_names(s, list[i]);
+        atoms += count_atoms(s, list[i]);
+        i += 1;
+    }
+    Totals { names, atoms }
+}
+
+// Whether one of these items has over 32 atoms.
+fn some_wide(s: &[u32], list: &[u64]) -> bool
+    ensures { λ r. ⌜ r ≡ wideLeft (now (s .entry)) (now (list .entry)) 0 ⌝ }
+{
+    let mut i = 0;
+    while i < list.len() {
+        if count_atoms(s, list[i]) > 32 {
+            return true;
+        }
+        i += 1;
+    }
+    false
+}
+
+// Four words at `at`; the next place.
+fn put4(out: &mut [u32], at: usize, a: u32, b: u32, c: u32, d: u32) -> usize
+    requires { ⌜ Has (now out) at (a ∷ b ∷ c ∷ d ∷ []) ⌝ }
+    ensures { λ r. ⌜ Wrote (now (out .entry)) (now (out .exit)) at r (a ∷ b ∷ c ∷ d ∷ []) ⌝ }
+{
+    out[at] = a;
+    let p1 = at + 1;
+    out[p1] = b;
+    let p2 = p1 + 1;
+    out[p2] = c;
+    let p3 = p2 + 1;
+    out[p3] = d;
+    p3 + 1
+}
+
+// Six words at `at`; the next place.
+fn put6(out: &mut [u32], at: usize, a: u32, b: u32, c: u32, d: u32, e: u32, f: u32) -> usize
+    requires { ⌜ Has (now out) at (a ∷ b ∷ c ∷ d ∷ e ∷ f ∷ []) ⌝ }
+    ensures { λ r. ⌜ Wrote (now (out .entry)) (now (out .exit)) at r (a ∷ b ∷ c ∷ d ∷ e ∷ f ∷ []) ⌝ }
+{
+    out[at] = a;
+    let p1 = at + 1;
+    out[p1] = b;
+    let p2 = p1 + 1;
+    out[p2] = c;
+    let p3 = p2 + 1;
+    out[p3] = d;
+    let p4 = p3 + 1;
+    out[p4] = e;
+    let p5 = p4 + 1;
+    out[p5] = f;
+    p5 + 1
+}
+
+// The first, second and third comparison of each relation; a comparison is 32 and five bits: left kind, left token, right
+// kind, right token, strict. 0 is none, and the last three stand for no relation.
+const FIRST: [u32; 16] = [51, 50, 35, 35, 35, 34, 34, 34, 41, 41, 41, 56, 57, 0, 0, 0];
+
+const SECOND: [u32; 16] = [0, 0, 45, 54, 61, 55, 54, 61, 55, 54, 39, 0, 0, 0, 0, 0];
+
+const THIRD: [u32; 16] = [0, 0, 55, 0, 0, 0, 0, 0, 0, 0, 61, 0, 0, 0, 0, 0];
+
+// The left token or the right.
+fn token(which: u32, l: u32, r: u32) -> u32
+    ensures { λ x. ⌜ x ≡ side which l r ⌝ }
+{
+    if which == 0 { l } else { r }
+}
+
+// The upper bound of an atom.
+fn limit(strict: u32) -> u32
+    ensures { λ x. ⌜ x ≡ upper strict ⌝ }
+{
+    if strict == 0 {
+        0
+    } else {
+        clock::Time::NO_LIMIT
+    }
+}
+
+// The atom of a comparison, or nothing.
+fn put_comparison(out: &mut [u32], at: usize, code: u32, l: u32, r: u32) -> usize
+    requires { ⌜ Has (now out) at (compared code l r) ⌝ }
+    ensures { λ x. ⌜ Wrote (now (out .entry)) (now (out .exit)) at x (compared code l r) ⌝ }
+{
+    if code == 0 {
+        return at;
+    }
+    let a = token(code / 8 % 2, l, r);
+    let b = token(code / 2 % 2, l, r);
+    let u = limit(code % 2);
+    put6(out, at, code / 16 % 2, a, code / 4 % 2, b, code % 2, u)
+}
+
+// The atoms of relation x, of the tokens l and r.
+fn put_relation(out: &mut [u32], at: usize, x: usize, l: u32, r: u32) -> usize
+    requires { ⌜ (x < 16) × Has (now out) at (relationWords x l r) ⌝ }
+    ensures { λ y. ⌜ Wrote (now (out .entry)) (now (out .exit)) at y (relationWords x l r) ⌝ }
+{
+    let a = put_comparison(out, at, FIRST[x], l, r);
+    let b = put_comparison(out, a, SECOND[x], l, r);
+    put_comparison(out, b, THIRD[x], l, r)
+}
+
+// The first rule with an alternative of over 32 atoms, or the number of rules.
+fn first_wide(s: &[u32], list: &[u64], numbers: &[u32]) -> usize
+    requires { ⌜ (now list ≡ allItems (now s)) × (now numbers ≡ sizesFrom (now s) (count (now s) 2) (offset (now s) 2)) ⌝ }
+    ensures { λ r. ⌜ r ≡ first tooWide (rulesBy (now (s .entry))) ⌝ }
+{
+    let mut m = 0;
+    let mut i = 0;
+    while i < numbers.len() {
+        let e = m + words::number_at(numbers, i);
+        if some_wide(s, &list[m..e]) {
+            return i;
+        }
+        m = e;
+        i += 1;
+    }
+    i
+}
+
+// The names of an item.
+fn put_item_names(s: &[u32], item: u64, out: &mut [u32], to: usize) -> usize
+    requires { ⌜ Has (now out) to (itemNames (now s) item) ⌝ }
+    ensures { λ r. ⌜ Wrote (now (out .entry)) (now (out .exit)) to r (itemNames (now (s .entry)) item) ⌝ }
+{
+    let p = (item % 16384) as usize;
+    let n = words::number_at(s, p + 1);
+    let mut q = words::number_at(s, 11) + 2 * words::number_at(s, p);
+    let mut at = to;
+    let mut i = 0;
+    while i < n {
+        out[at] = words::word_at(s, q);
+        out[at + 1] = words::word_at(s, q + 1);
+        at += 2;
+        q += 2;
+        i += 1;
+    }
+    at
+}
+
+// Table 4: the names of every item.
+fn put_names(s: &[u32], list: &[u64], out: &mut [u32], to: usize) -> usize
+    requires { ⌜ Has (now out) to (namesLeft (now s) (now list) 0) ⌝ }
+    ensures { λ r. ⌜ Wrote (now (out .entry)) (now (out .exit)) to r (namesLeft (now (s .entry)) (now (list .entry)) 0) ⌝ }
+{
+    let mut at = to;
+    let mut i = 0;
+    while i < list.len() {
+        at = put_item_names(s, list[i], out, at);
+        i += 1;
+    }
+    at
+}
+
+// The atoms of an item: those of each constraint's relation in turn.
+fn put_item_atoms(s: &[u32], item: u64, out: &mut [u32], to: usize) -> usize
+    requires { ⌜ Has (now out) to (itemAtoms (now s) item) ⌝ }
+    ensures { λ r. ⌜ Wrote (now (out .entry)) (now (out .exit)) to r (itemAtoms (now (s .entry)) item) ⌝ }
+{
+    let p = (item % 16384) as usize;
+    let k = words::number_at(s, p + 3);
+    let mut q = words::number_at(s, 13) + 3 * words::number_at(s, p + 2);
+    let mut code = item / 16384;
+    let mut at = to;
+    let mut i = 0;
+    while i < k {
+        let l = words::word_at(s, q);
+        let r = words::word_at(s, q + 1);
+        at = put_relation(out, at, (code % 16) as usize, l, r);
+        q += 3;
+        code = code / 16;
+        i += 1;
+    }
+    at
+}
+
+// Table 5: the atoms of every item.
+fn put_atoms(s: &[u32], list: &[u64], out: &mut [u32], to: usize) -> usize
+    requires { ⌜ Has (now out) to (atomsLeft (now s) (now list) 0) ⌝ }
+    ensures { λ r. ⌜ Wrote (now (out .entry)) (now (out .exit)) to r (atomsLeft (now (s .entry)) (now (list .entry)) 0) ⌝ }
+{
+    let mut at = to;
+    let mut i = 0;
+    while i < list.len() {
+        at = put_item_atoms(s, list[i], out, at);
+        i += 1;
+    }
+    at
+}
+
+// Table 3: a row for each item, with running numbers of names and atoms.
+fn put_alternatives(s: &[u32], list: &[u64], out: &mut [u32], to: usize) -> usize
+    requires { ⌜ (nameCount (now s) (now list) 0 ≤ 2048) × (atomCount (now s) (now list) 0 ≤ 2048) ⌝ }
+    requires { ⌜ Has (now out) to (rowsLeft (now s) (now list) 0 0 0) ⌝ }
+    ensures { λ r. ⌜ Wrote (now (out .entry)) (now (out .exit)) to r (rowsLeft (now (s .entry)) (now (list .entry)) 0 0 0) ⌝ }
+{
+    let mut at = to;
+    let mut name = 0;
+    let mut atom = 0;
+    let mut i = 0;
+    while i < list.len() {
+        let n = count_names(s, list[i]);
+        let k = count_atoms(s, list[i]);
+        at = put4(out, at, name as u32, n as u32, atom as u32, k as u32);
+        name += n;
+        atom += k;
+        i += 1;
+    }
+    at
+}
+
+// Table 2: a row for each rule, with a running number of alternatives.
+fn put_rules(s: &[u32], numbers: &[u32], out: &mut [u32], to: usize) -> usize
+    requires { ⌜ (now numbers ≡ sizesFrom (now s) (count (now s) 2) (offset (now s) 2)) × (length (allItems (now s)) ≤ 4096) ⌝ }
+    requires { ⌜ Has (now out) to (rulesLeft (now s) (count (now s) 2) 0 (offset (now s) 2) 0) ⌝ }
+    ensures { λ r. ⌜ Wrote (now (out .entry)) (now (out .exit)) to r (rulesLeft (now (s .entry)) (count (now (s .entry)) 2) 0 (offset (now (s .entry)) 2) 0) ⌝ }
+{
+    let mut q = words::number_at(s, 7);
+    let mut at = to;
+    let mut k: u32 = 0;
+    let mut i = 0;
+    while i < numbers.len() {
+        let n = numbers[i];
+        let v = words::word_at(s, q);
+        let x = words::word_at(s, q + 1);
+        at = put4(out, at, v, x, k, n);
+        k += n;
+        q += 4;
+        i += 1;
+    }
+    at
+}
+
+// The header of a book with n alternatives, m names and k atoms: what the sheet says of tables 0 to 2 stays.
+fn put_header(s: &[u32], n: usize, m: usize, k: usize, room: &mut [u32]) -> usize
+    requires { ⌜ (offset (now s) 3 + 4 * n + 2 * m + 6 * k ≤ 16384) × (14 ≤ length (now room)) ⌝ }
+    ensures { λ r. ⌜ Wrote (now (room .entry)) (now (room .exit)) 0 r (head (now (s .entry)) n m k) ⌝ }
+{
+    let o3 = words::number_at(s, 9);
+    let o4 = o3 + 4 * n;
+    let o5 = o4 + 2 * m;
+    let end = o5 + 6 * k;
+    let a = put4(room, 0, 1, end as u32, words::word_at(s, 2), 14);
+    let b = put4(
+        room,
+        a,
+        words::word_at(s, 4),
+        words::word_at(s, 5),
+        words::word_at(s, 6),
+        words::word_at(s, 7),
+    );
+    put6(
+        room,
+        b,
+        n as u32,
+        o3 as u32,
+        m as u32,
+        o4 as u32,
+        k as u32,
+        o5 as u32,
+    )
+}
+
+// Tables 2 to 5, one behind the other.
+fn put_tables(s: &[u32], list: &[u64], numbers: &[u32], room: &mut [u32], to: usize) -> usize
+    requires { ⌜ Ready (now s) (now list) (now numbers) ⌝ }
+    requires { ⌜ (nameCount (now s) (now list) 0 ≤ 2048) × (atomCount (now s) (now list) 0 ≤ 2048) ⌝ }
+    requires { ⌜ Has (now room) to (tablesBy (now s) (now list)) ⌝ }
+    ensures { λ r. ⌜ Wrote (now (room .entry)) (now (room .exit)) to r (tablesBy (now (s .entry)) (now (list .entry))) ⌝ }
+{
+    let a = put_rules(s, numbers, room, to);
+    let b = put_alternatives(s, list, room, a);
+    let c = put_names(s, list, room, b);
+    put_atoms(s, list, room, c)
+}
+
+// The whole book, with m names and k atoms: the header, tables 0 and 1 as they stand, and tables 2 to 5.
+fn put_book(s: &[u32], list: &[u64], numbers: &[u32], m: usize, k: usize, room: &mut [u32]) -> usize
+    requires { ⌜ Ready (now s) (now list) (now numbers) × Counted (now s) (now list) m k (now room) ⌝ }
+    ensures { λ r. ⌜ Wrote (now (room .entry)) (now (room .exit)) 0 r (translated (now (s .entry))) ⌝ }
+{
+    let a = put_header(s, list.len(), m, k, room);
+    let b = words::put_words(s, 14, words::number_at(s, 7) - 14, room, a);
+    put_tables(s, list, numbers, room, b)
+}
+
+// The first of tables 3, 4 and 5 that is too long, 6 if the whole is, or 0.
+fn too_long(n: usize, m: usize, k: usize, words: usize) -> u32
+    ensures { λ r. ⌜ r ≡ longTable n m k words ⌝ }
+{
+    if n > 1024 {
+        return 3;
+    }
+    if m > 2048 {
+        return 4;
+    }
+    if k > 2048 {
+        return 5;
+    }
+    if words > 16384 {
+        return 6;
+    }
+    0
+}
+
+// The answers after 13, for a good sheet whose choices are listed; the book is written once nothing is wrong.
+fn finish(sheet: &[u32], list: &[u64], numbers: &[u32], room: &mut [u32]) -> Answer
+    requires { ⌜ Ready (now sheet) (now list) (now numbers) × (Passed (now sheet) × (count (now sheet) 2 ≤ first tooMany (rulesBy (now sheet)))) ⌝ }
+    ensures { λ r. ⌜ (numbersOf r ≡ translation (now (sheet .entry)) (length (now (room .entry)))) × (now (room .exit) ≡ roomAfter (now (sheet .entry)) (now (room .entry))) ⌝ }
+{
+    let rule = first_wide(sheet, list, numbers);
+    if rule < numbers.len() {
+        return Answer::TooManyAtoms { rule: rule as u32 };
+    }
+    let n = list.len();
+    let all = count_all(sheet, list);
+    let m = all.names;
+    let k = all.atoms;
+    let words = words::number_at(sheet, 9) + 4 * n + 2 * m + 6 * k;
+    let table = too_long(n, m, k, words);
+    if table != 0 {
+        return Answer::TooLong { table };
+    }
+    if room.len() < words {
+        return Answer::RoomTooShort {
+            words: words as u32,
+        };
+    }
+    put_book(sheet, list, numbers, m, k, room);
+    Answer::Translated {
+        words: words as u32,
+        alternatives: n as u32,
+    }
+}
+
+// Translates a sheet into the book that says the same, at the start of the lent room, and answers what is wrong or how many
+// words and alternatives the book has. Refused, the room is untouched.
+pub fn translate(sheet: &[u32], room: &mut [u32]) -> Answer
+    ensures { λ r. ⌜ (numbersOf r ≡ translation (now (sheet .entry)) (length (now (room .entry)))) × (now (room .exit) ≡ roomAfter (now (sheet .entry)) (now (room .entry))) ⌝ }
+{
+    let r = book::check(sheet, 2);
+    let fault = answers::numbers_of(r);
+    if fault.number != 0 {
+        return r;
+    }
+    let mut items: [u64; 4097] = [0; 4097];
+    let mut numbers: [u32; 64] = [0; 64];
+    let listed = list_rules(sheet, &mut items, &mut numbers);
+    let rules = words::number_at(sheet, 6);
+    let rule = listed.rule;
+    if rule < rules {
+        return Answer::TooManyAlternatives { rule: rule as u32 };
+    }
+    let n = listed.items;
+    finish(sheet, &items[..n], &numbers[..rules], room)
+}
