@@ -1,0 +1,15 @@
+-- `files::first_words` is safe: the part that it hands on is as long as it says. Assumes nothing.
+use mathlib.Core.Path.{sym}
+use native.Mathlib.Omega.{arith}
+use borrow.Author.Needs.{needs}
+use lib.Seq.{length-take-le}
+use Rattle.files.proofs.first_words.Statement.{statement}
+use Rattle.files.proofs.first_words.Tie as tie
+
+pub first-words-spec : {M : Type 1} → statement M
+first-words-spec =
+    tie.close
+    (tie.spec
+    (λ c. sym (length-take-le (c .before .before .args .n) (c .before .before .args .s .now) (omega arith)))
+    (λ c. search needs)
+    (λ c. search needs))

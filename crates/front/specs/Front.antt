@@ -1,0 +1,45 @@
+-- What a step for C leaves in the four numbers lent to it. Assumes nothing.
+use mathlib.Core.Path.{_≡_, refl, sym, ap, _∙_}
+use mathlib.Core.Bool.{Bool, true, false, cond}
+use mathlib.Core.List.{List}
+use Prim.Native.Nat.{ℕ}
+use native.Mathlib.Omega.{arith}
+use Rattle.plan.specs.declared.Token.{Token}
+use Rattle.plan.specs.declared.Position.{Position}
+use Rattle.plan.specs.Walk.{names, stepOf}
+use Rattle.plan.specs.declared.Step.{Step}
+use Rattle.plan.specs.declared.Step.the-variants.{Handed, NoMore}
+
+-- a token was handed out: its value and end, and the next position's token number and start; no more: all four as they were
+abbrev pub Stepped : Step → ℕ → ℕ → ℕ → ℕ → ℕ → ℕ → ℕ → ℕ → Type 0
+Stepped (Handed t next) token start value end token′ start′ value′ end′ =
+    (token′ ≡ next .token) × (start′ ≡ next .start .tick) × (value′ ≡ t .value) × (end′ ≡ t .end .tick)
+Stepped (NoMore at) token start value end token′ start′ value′ end′ =
+    (token′ ≡ token) × (start′ ≡ start) × (value′ ≡ value) × (end′ ≡ end)
+
+-- ---- laws
+
+handed-test : (b : Bool) (t u : Token) (n m back : Position) → cond b (Handed t n) (NoMore back) ≡ Handed u m → true ≡ b
+handed-test true t u n m back h = refl
+handed-test false t u n m back h = let z : _≡_ {A = ℕ} 0 1 = cc in absurd (omega arith)
+
+more-test : (b : Bool) (t : Token) (n back other : Position) → cond b (Handed t n) (NoMore back) ≡ NoMore other → false ≡ b
+more-test true t n back other h = let z : _≡_ {A = ℕ} 0 1 = cc in absurd (omega arith)
+more-test false t n back other h = refl
+
+-- a step that hands out a token is one at a position that names one
+pub handed : (p : List ℕ) (q : Position) (r : Step) (t : Token) (next : Position) → r ≡ stepOf p q → r ≡ Handed t next → true ≡ names p q
+unfolding stepOf
+handed p q r t next e h = handed-test (names p q) _ _ _ _ _ (sym e ∙ h)
+
+pub none : (p : List ℕ) (q : Position) (r : Step) (back : Position) → r ≡ stepOf p q → r ≡ NoMore back → false ≡ names p q
+unfolding stepOf
+none p q r back e h = more-test (names p q) _ _ _ _ (sym e ∙ h)
+
+pub stepped : (p : List ℕ) (q : Position) (r : Step) (t : Token) (next : Position) (token start value end : ℕ) → r ≡ stepOf p q → r ≡ Handed t next
+    → Stepped (stepOf p q) token start value end (next .token) (next .start .tick) (t .value) (t .end .tick)
+stepped p q r t next token start value end e h = rw (sym e ∙ h) (refl, refl, refl, refl)
+
+pub stayed : (p : List ℕ) (q : Position) (r : Step) (back : Position) (token start value end : ℕ) → r ≡ stepOf p q → r ≡ NoMore back
+    → Stepped (stepOf p q) token start value end token start value end
+stayed p q r back token start value end e h = rw (sym e ∙ h) (refl, refl, refl, refl)

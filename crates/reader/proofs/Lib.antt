@@ -1,0 +1,2 @@
+-- The laws behind the proofs of `reader`.
+mod Laws

@@ -1,0 +1,3 @@
+-- The definitions that the contracts of `reader` cite, and the claims on a reader.
+pub mod Opening
+pub mod Claims

@@ -1,0 +1,20 @@
+// Runs what document 01 lists and doesn't star, a line each, in its order; the expected lines are in this crate's stdout.
+fn main() {
+    // P2 with the job of 20 at 5 and at 60: both pass 9; the longer one leaves the decoder's stretch
+    files::judge(b"book.bin", b"job5.bin");
+    files::judge(b"book.bin", b"job60.bin");
+    // the second decoder token at 999,999,990 passes 11
+    files::judge(b"book.bin", b"last.bin");
+    // E's rule as a sheet: in a room for 16,384 words, and for 105
+    files::translate(b"sheet.bin", b"made.bin", b"made.bin.new");
+    files::translate_short(b"sheet.bin");
+    // the book that it became and the sheet itself judge alike
+    files::judge(b"made.bin", b"p1.bin");
+    files::judge_sheet(b"sheet.bin", b"p1.bin");
+    files::judge(b"made.bin", b"p2.bin");
+    files::judge_sheet(b"sheet.bin", b"p2.bin");
+    // sets of 8 and 8 relations, of 5 and 13, and eight of 13
+    files::translate(b"eight.bin", b"made8.bin", b"made.bin.new");
+    files::translate(b"thirteen.bin", b"made13.bin", b"made.bin.new");
+    files::translate(b"all.bin", b"made13.bin", b"made.bin.new");
+}

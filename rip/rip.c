@@ -1,0 +1,31 @@
+/* The RIP's front end in little: rip BOOK PLAN hands both files over as bytes and prints the judge's line. */
+#include <inttypes.h>
+#include <stdio.h>
+
+#include "tteokbiran.h"
+
+/* four bytes more than a file may have, so that one that is too long is seen to be so */
+#define MOST 65540
+
+static size_t slurp(const char *name, uint8_t *bytes) {
+    FILE *file = fopen(name, "rb");
+    if (file == NULL)
+        return 0; /* a missing file counts as no words */
+    size_t n = fread(bytes, 1, MOST, file);
+    fclose(file);
+    return n;
+}
+
+int main(int argc, char **argv) {
+    static uint8_t book[MOST], plan[MOST];
+    uint32_t number, a, b;
+    if (argc != 3) {
+        fprintf(stderr, "usage: %s BOOK PLAN\n", argv[0]);
+        return 2;
+    }
+    size_t book_len = slurp(argv[1], book);
+    size_t plan_len = slurp(argv[2], plan);
+    tteokbiran_judge(book, book_len, plan, plan_len, &number, &a, &b);
+    printf("%" PRIu32 " %" PRIu32 " %" PRIu32 "\n", number, a, b);
+    return 0;
+}

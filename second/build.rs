@@ -1,0 +1,15 @@
+//! Says where the proved static library is. Only the programs that use it link
+//! it (see src/proved.rs), so the library and its tests build without it.
+
+use std::env;
+use std::path::PathBuf;
+
+fn main() {
+    println!("cargo:rerun-if-env-changed=TTEOKBIRAN_LIB");
+    let here = PathBuf::from(env::var("CARGO_MANIFEST_DIR").expect("cargo sets this"));
+    let named = env::var("TTEOKBIRAN_LIB").unwrap_or_else(|_| "../target/staticlib".to_string());
+    // A relative name is read from this folder; join leaves a full one alone.
+    let folder = here.join(named);
+    println!("cargo:rerun-if-changed={}", folder.join("libfront.a").display());
+    println!("cargo:rustc-link-search=native={}", folder.display());
+}

@@ -1,0 +1,236 @@
+//! The kinds of cases.
+
+use crate::both::Both;
+use second::generate::draft::plan_words;
+use second::generate::random::{pair, Size, LARGE, MEDIUM, SMALL};
+use second::generate::rng::Rng;
+use second::generate::{damage, extreme};
+use second::layout::{Kind, LAST, N};
+use second::specimens::{self, Call, E, E_SHEET, P1, P2};
+use second::words::to_bytes;
+use second::Position;
+
+/// The law's specimens. Both have to give the line that stands in the law.
+pub fn specimens(both: &mut Both) -> u64 {
+    let mut number = 0;
+    for specimen in specimens::all() {
+        both.case = format!("specimen {}", specimen.name);
+        let answer = match &specimen.call {
+            Call::Judge(book, plan) => both.judge(&to_bytes(book), &to_bytes(plan)),
+            Call::JudgeSheet(sheet, plan) => both.judge_sheet(&to_bytes(sheet), &to_bytes(plan)),
+            Call::Translate(sheet, room) => both.translate(&to_bytes(sheet), *room).0,
+        };
+        both.expect("what the law expects", &answer, &specimen.expected, &[]);
+        let [n, a, b] = answer;
+        println!("specimen {}: {n} {a} {b}", specimen.name);
+        number += 1;
+    }
+    number
+}
+
+/// Every word of some inputs in turn, replaced by every edge.
+pub fn every_place(both: &mut Both, cases: u64) -> u64 {
+    let (p1, p2) = (to_bytes(&P1), to_bytes(&P2));
+    let mut number = 0;
+    let mut each = |words: &[u32], ask: &mut dyn FnMut(&mut Both, &[u8])| {
+        for at in 0..words.len() {
+            for edge in damage::edges(words[at]) {
+                both.case = format!("word {at} as {edge}");
+                ask(both, &to_bytes(&specimens::with(words, at, edge)));
+                number += 1;
+            }
+        }
+    };
+    each(&E, &mut |both, book| {
+        both.judge(book, &p1);
+        both.read(book, &p2, 1, 5);
+    });
+    each(&E_SHEET, &mut |both, sheet| {
+        both.judge_sheet(sheet, &p2);
+        both.translate(sheet, 16_384);
+    });
+    let (e, e_sheet) = (to_bytes(&E), to_bytes(&E_SHEET));
+    for plan in [&P1[..], &P2[..]] {
+        each(plan, &mut |both, plan| {
+            both.judge(&e, plan);
+            both.judge_sheet(&e_sheet, plan);
+            (0..3).for_each(|line| both.read(&e, plan, line, 5));
+        });
+    }
+    // And every word of random ones, by one edge each.
+    for case in 0..cases {
+        let mut rng = Rng::new(77, case);
+        let kind = if case % 2 == 0 { Kind::Book } else { Kind::Sheet };
+        let (draft, lines) = pair(&mut rng, kind, SMALL);
+        let (words, plan) = (draft.words(), plan_words(&lines));
+        for at in 0..words.len() + plan.len() {
+            let (mut words, mut plan) = (words.clone(), plan.clone());
+            let word = words.iter_mut().chain(&mut plan).nth(at).expect("in one of the two");
+            *word = damage::edge(&mut rng, *word);
+            both.case = format!("every place, case {case}, word {at}");
+            judge(both, kind, &to_bytes(&words), &to_bytes(&plan));
+            number += 1;
+        }
+    }
+    number
+}
+
+fn judge(both: &mut Both, kind: Kind, words: &[u8], plan: &[u8]) {
+    match kind {
+        Kind::Book => both.judge(words, plan),
+        Kind::Sheet => both.judge_sheet(words, plan),
+    };
+}
+
+/// All that can be asked of a book or sheet and a plan.
+fn ask(both: &mut Both, rng: &mut Rng, kind: Kind, words: &[u8], plan: &[u8]) {
+    match kind {
+        Kind::Book => {
+            both.judge(words, plan);
+            if rng.percent(30) {
+                let line = rng.pick(&[0, 0, 0, 1, 1, 2, 3, 15, 16, N]);
+                // Each step is handed the whole plan, so long ones are mostly cut short.
+                let most = if plan.len() > 4_000 && rng.percent(90) { 6 } else { 600 };
+                both.read(words, plan, line, most);
+            }
+        }
+        Kind::Sheet => {
+            let direct = both.judge_sheet(words, plan);
+            let (answer, book) = both.translate(words, rng.pick(&[16_384, 16_384, 20_000]));
+            if answer[0] == 0 {
+                // The translation has to say what the sheet says.
+                let by_book = both.judge(&to_bytes(&book), plan);
+                both.expect(
+                    "judging the translation",
+                    &by_book,
+                    &direct,
+                    &[("sheet", words), ("plan", plan)],
+                );
+            }
+            let needed = answer[1] as usize;
+            if answer[0] == 0 && rng.percent(50) {
+                both.translate(words, rng.pick(&[0, 1, needed - 1, needed, needed + 1]));
+            }
+        }
+    }
+}
+
+fn size(rng: &mut Rng) -> Size {
+    match rng.below(300) {
+        0 => LARGE,
+        1..=20 => MEDIUM,
+        _ => SMALL,
+    }
+}
+
+/// One random case.
+pub fn random(both: &mut Both, rng: &mut Rng) {
+    let kind = if rng.percent(65) { Kind::Book } else { Kind::Sheet };
+    match rng.below(1000) {
+        0..=29 => return extremes(both, rng, kind),
+        30..=89 => return steps(both, rng),
+        _ => (),
+    }
+    let size = size(rng);
+    let (draft, lines) = pair(rng, kind, size);
+    let (mut words, mut plan) = (draft.words(), plan_words(&lines));
+    match rng.below(100) {
+        0..=44 => (),
+        45..=64 => damage::words(rng, &mut words),
+        65..=84 => damage::words(rng, &mut plan),
+        85..=89 => damage::stretch(rng, &mut words),
+        90..=94 => damage::stretch(rng, &mut plan),
+        _ => {
+            damage::words(rng, &mut words);
+            damage::words(rng, &mut plan);
+        }
+    }
+    let (mut words, mut plan) = (to_bytes(&words), to_bytes(&plan));
+    match rng.below(200) {
+        0 => damage::bytes(rng, &mut words),
+        1 => damage::bytes(rng, &mut plan),
+        _ => (),
+    }
+    ask(both, rng, kind, &words, &plan);
+}
+
+fn extremes(both: &mut Both, rng: &mut Rng, kind: Kind) {
+    let (mut words, mut plan) = match rng.below(10) {
+        0 => extreme::largest(kind),
+        1..=4 => {
+            let draft = extreme::counts(rng, kind);
+            (draft.words(), extreme::long_plan(rng, &draft))
+        }
+        5..=6 => {
+            let draft = extreme::values(rng, kind);
+            (draft.words(), extreme::long_plan(rng, &draft))
+        }
+        _ if kind == Kind::Sheet => {
+            let draft = extreme::expansion(rng);
+            let lines = vec![vec![[0, 1 + rng.below(3)]; rng.index(4)]];
+            (draft.words(), plan_words(&lines))
+        }
+        _ => {
+            let draft = extreme::values(rng, kind);
+            (draft.words(), extreme::long_plan(rng, &draft))
+        }
+    };
+    match rng.below(10) {
+        0 => damage::stretch(rng, &mut words),
+        1 => damage::stretch(rng, &mut plan),
+        2 => damage::words(rng, &mut plan),
+        _ => (),
+    }
+    ask(both, rng, kind, &to_bytes(&words), &to_bytes(&plan));
+}
+
+const HALF: u32 = 0x8000_0000;
+
+/// Steps from any position on any words.
+fn steps(both: &mut Both, rng: &mut Rng) {
+    let (words, positions) = if rng.percent(30) { wrapping(rng) } else { any_words(rng) };
+    let mut bytes = to_bytes(&words);
+    if rng.percent(3) {
+        damage::bytes(rng, &mut bytes);
+    }
+    for at in positions {
+        both.step(&bytes, at);
+    }
+}
+
+fn any_words(rng: &mut Rng) -> (Vec<u32>, Vec<Position>) {
+    let lines = rng.pick(&[0, 1, 1, 2, 2, 3, 15, 16, HALF - 1, HALF, HALF + 1, N - 1, N]);
+    let mut words = vec![1, 0, lines];
+    let some = [0, 0, 0, 1, 1, 2, 3, 10, HALF - 1, HALF, N - 2, N - 1, N, LAST, LAST - 1];
+    for _ in 0..rng.below(12) {
+        words.push(rng.pick(&some));
+    }
+    words.truncate(rng.pick(&[0, 2, 3, 4, 5, 6, 7, 99, 99, 99, 99, 99]));
+    let mut position = || Position {
+        line: rng.pick(&[0, 0, 0, 1, 2, lines, lines.wrapping_sub(1), HALF, N]),
+        token: rng.pick(&[0, 0, 0, 1, 1, 2, 3, HALF, N - 1, N]),
+        start: rng.pick(&[0, 0, 0, 1, 5, LAST - 1, LAST, LAST + 1, HALF, N - 1, N]),
+    };
+    let positions = (0..4).map(|_| position()).collect();
+    (words, positions)
+}
+
+/// Sums that come out small, and so name a token, when 32 bits are all there is.
+fn wrapping(rng: &mut Rng) -> (Vec<u32>, Vec<Position>) {
+    let lines = rng.pick(&[1, 1, 2, 3, HALF, HALF + 1]);
+    let line = rng.below(lines.min(3));
+    let duration = rng.pick(&[0, 1, 5, LAST, N, N - 4]);
+    let first = rng.pick(&[0, 1, HALF, HALF + 1, N - 1, N]);
+    let token = rng.below(4).wrapping_sub(rng.pick(&[0, first, first ^ HALF]));
+    let mut words = vec![1, 0, lines];
+    for _ in 0..3 {
+        words.extend([first, rng.pick(&[N, N, token, token.wrapping_add(1)])]);
+    }
+    words.resize(3 + 2 * lines.min(3) as usize, 0);
+    for value in 0..rng.below(6) {
+        words.extend([value, duration]);
+    }
+    let start =
+        rng.pick(&[0, 0, 5, LAST, 0u32.wrapping_sub(duration), 3u32.wrapping_sub(duration)]);
+    (words, vec![Position { line, token, start }])
+}

@@ -1,0 +1,159 @@
+//! Writes the example folders. make-examples <folder>
+//!
+//! Each has the input files, `line` with the line of numbers that judging them
+//! gives, and `what.txt` with what it shows.
+
+use second::layout::Answer;
+use second::specimens::{with, E, E_SHEET, P1, P2};
+use second::words::to_bytes;
+use second::{judge, judge_sheet};
+use std::path::Path;
+use std::{fs, io, process};
+
+struct Example {
+    folder: &'static str,
+    /// Whether the first file is a sheet.
+    sheet: bool,
+    book: Vec<u32>,
+    plan: Vec<u32>,
+    expected: Answer,
+    what: &'static str,
+}
+
+/// E judging some plan.
+fn e(folder: &'static str, plan: Vec<u32>, expected: Answer, what: &'static str) -> Example {
+    Example { folder, sheet: false, book: E.to_vec(), plan, expected, what }
+}
+
+/// Some book judging P2.
+fn p2(folder: &'static str, book: Vec<u32>, expected: Answer, what: &'static str) -> Example {
+    Example { folder, sheet: false, book, plan: P2.to_vec(), expected, what }
+}
+
+fn sheet(folder: &'static str, plan: &[u32], expected: Answer, what: &'static str) -> Example {
+    let (book, plan) = (E_SHEET.to_vec(), plan.to_vec());
+    Example { folder, sheet: true, book, plan, expected, what }
+}
+
+/// The words with one more at the end, the total being right.
+fn one_more(words: &[u32]) -> Vec<u32> {
+    let mut out = words.to_vec();
+    out.push(0);
+    out[1] = out.len() as u32;
+    out
+}
+
+fn all() -> Vec<Example> {
+    vec![
+        e(
+            "accepted",
+            P2.to_vec(),
+            [0, 2, 0],
+            "Both UTF-8 jobs run while the decoder reads UTF-8, so the plan is accepted.",
+        ),
+        e(
+            "misspelt",
+            P1.to_vec(),
+            [12, 0, 3],
+            "The second UTF-8 job, token 3 of the RIP, runs while the decoder reads Latin-1; \
+             this plan spelled a name wrong.",
+        ),
+        p2(
+            "fault-01",
+            E[..13].to_vec(),
+            [1, 0, 0],
+            "The book has 13 words, one less than its header needs.",
+        ),
+        p2(
+            "fault-02",
+            with(&E, 1, 51),
+            [2, 1, 0],
+            "Word 1 of the book says 51 words in all, but it has 52.",
+        ),
+        p2("fault-03", one_more(&E), [3, 0, 0], "The book has one word more than its tables."),
+        p2(
+            "fault-04",
+            with(&E, 27, 61),
+            [4, 1, 3],
+            "The last value record, 3 of table 1, has a least duration above its greatest.",
+        ),
+        e(
+            "fault-05",
+            P2[..6].to_vec(),
+            [5, 0, 0],
+            "The plan has 6 words, too few for two timelines.",
+        ),
+        e(
+            "fault-06",
+            with(&P2, 5, 3),
+            [6, 5, 0],
+            "Word 5 of the plan begins timeline 1 at token 3, but timeline 0 has two tokens.",
+        ),
+        e("fault-07", one_more(&P2), [7, 0, 0], "The plan has one word more than its tokens."),
+        e(
+            "fault-08",
+            with(&P2, 9, 2),
+            [8, 0, 1],
+            "Token 1 of the decoder has value 2, but the decoder has only values 0 and 1.",
+        ),
+        e(
+            "fault-09",
+            with(&P2, 14, 61),
+            [9, 1, 1],
+            "Token 1 of the RIP is a job of 61 ticks, but a job lasts 5 to 60.",
+        ),
+        e(
+            "fault-10",
+            with(&P2, 9, 0),
+            [10, 0, 1],
+            "Token 1 of the decoder is Latin-1 again, but only UTF-8 may follow Latin-1.",
+        ),
+        e(
+            "fault-11",
+            with(&P2, 10, 999_999_991),
+            [11, 0, 1],
+            "Token 1 of the decoder ends one tick after the last.",
+        ),
+        sheet(
+            "sheet",
+            &P1,
+            [12, 0, 3],
+            "The same rule as a sheet refuses the misspelt plan; \
+             translating it prints 0 106 4, and the book it makes gives the same line.",
+        ),
+        sheet(
+            "sheet-accepted",
+            &P2,
+            [0, 2, 0],
+            "The same rule as a sheet accepts the plan; \
+             translating it prints 0 106 4, and the book it makes gives the same line.",
+        ),
+    ]
+}
+
+fn write(root: &Path, example: &Example) -> io::Result<()> {
+    let folder = root.join(example.folder);
+    fs::create_dir_all(&folder)?;
+    let book = if example.sheet { "sheet.bin" } else { "book.bin" };
+    fs::write(folder.join(book), to_bytes(&example.book))?;
+    fs::write(folder.join("plan.bin"), to_bytes(&example.plan))?;
+    let [number, a, b] = example.expected;
+    fs::write(folder.join("line"), format!("{number} {a} {b}\n"))?;
+    fs::write(folder.join("what.txt"), format!("{}\n", example.what))
+}
+
+fn main() {
+    let Some(root) = std::env::args_os().nth(1) else {
+        eprintln!("usage: make-examples <folder>");
+        process::exit(2);
+    };
+    for example in all() {
+        let judge = if example.sheet { judge_sheet } else { judge };
+        let answer = judge(&example.book, &example.plan);
+        assert_eq!(answer, example.expected, "{}", example.folder);
+        if let Err(error) = write(Path::new(&root), &example) {
+            eprintln!("{}: {error}", example.folder);
+            process::exit(1);
+        }
+    }
+}

@@ -1,0 +1,106 @@
+//! Inputs that are as large, or need as much searching, as can be.
+
+use super::draft::{alternative, plan_words, AlternativeDraft, Draft, Lines};
+use crate::layout::{Kind, LAST, N};
+
+/// Sixteen variables of 32 values that all follow each other.
+fn widest(kind: Kind) -> Draft {
+    Draft::new(kind, vec![vec![[1, N, N]; 32]; 16])
+}
+
+/// 16,384 words. The triggers are all of value 31.
+pub fn largest_book() -> Vec<u32> {
+    let atoms: [&[u32]; 2] = [&[0, 0, 0, 1, 0, N], &[1, 1, 1, 0, 5, LAST]];
+    let mut draft = widest(Kind::Book);
+    let mut made = 0;
+    for rule in 0..64 {
+        let mut alternatives = Vec::new();
+        for _ in 0..if rule < 44 { 5 } else { 4 } {
+            let names = if made < 229 { 2 } else { 1 };
+            let tests = if made < 248 { 7 } else { 6 };
+            alternatives.push(AlternativeDraft {
+                names: vec![[made % 16, made % 32]; names],
+                tests: atoms.iter().cycle().take(tests).map(|a| a.to_vec()).collect(),
+            });
+            made += 1;
+        }
+        draft.rule([rule % 16, 31], alternatives);
+    }
+    draft.words()
+}
+
+/// 16,383 words, the most that a plan can have, and no token of value 31.
+pub fn largest_plan() -> Vec<u32> {
+    let line = |number: u32| {
+        let count = if number < 14 { 511 } else { 510 };
+        (0..count).map(|i| [(i + number) % 31, 1 + i % 7]).collect()
+    };
+    plan_words(&(0..16).map(line).collect())
+}
+
+/// Lines of 512 tokens of length 10, of values 0 and 1 in turn.
+fn full_lines(lines: usize) -> Vec<u32> {
+    plan_words(&vec![(0..512).map(|i| [i % 2, 10]).collect(); lines])
+}
+
+fn two_values(lines: usize) -> Draft {
+    Draft::new(Kind::Book, vec![vec![[10, 10, 3]; 2]; lines])
+}
+
+/// 64 rules over 15 full lines. The first alternative never holds, the second
+/// for one token.
+pub fn one_name() -> (Vec<u32>, Vec<u32>) {
+    let mut draft = two_values(15);
+    for rule in 0..64 {
+        let (line, value) = (rule % 15, rule / 15 % 2);
+        let name = [(line + 1) % 15, value];
+        let never = alternative(&[name], &[&[0, 0, 0, 1, 5, 5]]);
+        let beside = alternative(&[name], &[&[0, 0, 0, 1, 0, 0], &[1, 0, 1, 1, 0, 0]]);
+        draft.rule([line, value], vec![never, beside]);
+    }
+    (draft.words(), full_lines(15))
+}
+
+/// One rule over three full lines; a pair of tokens meets it for each trigger,
+/// and only the second token of the pair shows whether it does.
+pub fn two_names() -> (Vec<u32>, Vec<u32>) {
+    let mut draft = two_values(3);
+    let tests: [&[u32]; 2] = [&[1, 1, 0, 2, 0, 0], &[0, 0, 1, 2, 20, 20]];
+    draft.rule([0, 0], vec![alternative(&[[1, 0], [2, 1]], &tests)]);
+    (draft.words(), full_lines(3))
+}
+
+/// One trigger and one line for each name, with an atom that never holds
+/// between the first name and the last. Free, every choice has to be tried;
+/// chained, each name also has to come after the one before.
+pub fn names(names: u32, tokens: usize, chained: bool) -> (Vec<u32>, Vec<u32>) {
+    let mut draft = Draft::new(Kind::Book, vec![vec![[10, 10, 1]]; names as usize + 1]);
+    let mut one = AlternativeDraft::default();
+    for name in 1..=names {
+        one.names.push([name, 0]);
+        one.tests.push(match chained && name > 1 {
+            true => vec![1, name - 1, 0, name, 0, N],
+            false => vec![2, 0, 0, name, 0, N],
+        });
+    }
+    one.tests.push(vec![0, 1, 1, names, LAST, N]);
+    draft.rule([0, 0], vec![one]);
+    let mut lines: Lines = vec![vec![[0, 10]; tokens]; names as usize + 1];
+    lines[0].truncate(1);
+    (draft.words(), plan_words(&lines))
+}
+
+/// A sheet whose translation has 16,384 words and 888 alternatives.
+pub fn largest_sheet() -> Vec<u32> {
+    let mut draft = widest(Kind::Sheet);
+    for rule in 0..64 {
+        let name = [rule % 16, rule % 32];
+        let mut alternatives = vec![alternative(&[name], &[&[0, 1, 8191]])];
+        if rule < 56 {
+            let names = if rule == 0 { 2 } else { 1 };
+            alternatives.push(alternative(&vec![name; names], &[]));
+        }
+        draft.rule([rule % 16, 31], alternatives);
+    }
+    draft.words()
+}

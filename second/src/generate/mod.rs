@@ -1,0 +1,8 @@
+//! Makes inputs: by hand from drafts, or at random but repeatable.
+
+pub mod damage;
+pub mod draft;
+pub mod extreme;
+pub mod load;
+pub mod random;
+pub mod rng;

@@ -1,0 +1,119 @@
+//! A plan as tokens with start and end, gathered by value.
+
+use crate::decode::{Book, Value};
+use crate::layout::{Answer, LAST, MAX_TOKENS, MAX_WORDS, N};
+
+/// A token in time, with its number in its line.
+#[derive(Clone, Copy, Default)]
+pub struct Span {
+    pub start: u32,
+    pub end: u32,
+    pub token: u32,
+}
+
+/// The tokens of each value, in the order of their line.
+pub struct Tokens {
+    spans: Vec<Span>,
+    first: Vec<usize>,
+}
+
+impl Tokens {
+    /// `value` is the record of a value, which stands for its variable too.
+    pub fn of(&self, value: usize) -> &[Span] {
+        &self.spans[self.first[value]..self.first[value + 1]]
+    }
+}
+
+/// The token counts of the lines: faults 5 to 7.
+fn counts(words: &[u32], variables: usize) -> Result<Vec<u32>, Answer> {
+    let tokens_at = 3 + 2 * variables;
+    if words.len() < tokens_at || words.len() > MAX_WORDS {
+        return Err([5, 0, 0]);
+    }
+    for (i, expected) in [1, words.len(), variables].into_iter().enumerate() {
+        if words[i] as usize != expected {
+            return Err([6, i as u32, 0]);
+        }
+    }
+    let mut sum = 0;
+    let mut counts = Vec::with_capacity(variables);
+    for line in 0..variables {
+        let at = 3 + 2 * line;
+        if words[at] != sum {
+            return Err([6, at as u32, 0]);
+        }
+        if words[at + 1] > MAX_TOKENS {
+            return Err([6, at as u32 + 1, 0]);
+        }
+        sum += words[at + 1];
+        counts.push(words[at + 1]);
+    }
+    if tokens_at + 2 * sum as usize != words.len() {
+        return Err([7, 0, 0]);
+    }
+    Ok(counts)
+}
+
+/// Faults 5 to 11.
+pub fn tokens<T>(book: &Book<T>, words: &[u32]) -> Result<Tokens, Answer> {
+    let lines = book.variables.len();
+    let counts = counts(words, lines)?;
+    let mut left = &words[3 + 2 * lines..];
+    let mut split = Vec::with_capacity(lines);
+    // How many tokens each value has, one place further on.
+    let mut first = vec![0; book.values.len() + 1];
+    for (line, count) in counts.into_iter().enumerate() {
+        let (own, after) = left.split_at(2 * count as usize);
+        let base = book.variables[line].start;
+        let values = &book.values[book.variables[line].clone()];
+        check_line(values, own, &mut first[base + 1..])
+            .map_err(|(number, token)| [number, line as u32, token as u32])?;
+        split.push((base, own));
+        left = after;
+    }
+    for value in 1..first.len() {
+        first[value] += first[value - 1];
+    }
+    Ok(Tokens { spans: gather(&split, &first), first })
+}
+
+/// Faults 8 to 11 of one line, each with its token; counts the tokens.
+fn check_line(values: &[Value], words: &[u32], seen: &mut [usize]) -> Result<(), (u32, usize)> {
+    let mut time = 0u64;
+    let mut may_follow = u32::MAX;
+    for (token, record) in words.chunks_exact(2).enumerate() {
+        let (number, duration) = (record[0], record[1]);
+        let value = values.get(number as usize).ok_or((8, token))?;
+        let too_long = value.greatest != N && duration > value.greatest;
+        if duration < value.least || too_long {
+            return Err((9, token));
+        }
+        if may_follow >> number & 1 == 0 {
+            return Err((10, token));
+        }
+        time += u64::from(duration);
+        if time > u64::from(LAST) {
+            return Err((11, token));
+        }
+        may_follow = value.successors;
+        seen[number as usize] += 1;
+    }
+    Ok(())
+}
+
+/// The tokens of good lines, each line with the record of its first value.
+fn gather(lines: &[(usize, &[u32])], first: &[usize]) -> Vec<Span> {
+    let mut next = first.to_vec();
+    let mut spans = vec![Span::default(); *first.last().unwrap_or(&0)];
+    for (base, words) in lines {
+        let mut start = 0;
+        for (record, token) in words.chunks_exact(2).zip(0..) {
+            let end = start + record[1];
+            let place = &mut next[base + record[0] as usize];
+            spans[*place] = Span { start, end, token };
+            *place += 1;
+            start = end;
+        }
+    }
+    spans
+}

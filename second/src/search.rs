@@ -1,0 +1,150 @@
+//! Whether the rules are met, and what an atom says.
+
+use crate::decode::{Alternative, Book, Owner, Placed, Test};
+use crate::layout::{Answer, Kind, LAST, N};
+use crate::plan::{Span, Tokens};
+
+/// Where a term's time stands among the placed ones, the name it needs, and
+/// what to add. A time point stands at the 0 and adds itself.
+struct Term {
+    place: usize,
+    name: usize,
+    add: i64,
+}
+
+impl Term {
+    fn read(kind: u32, argument: u32, owner: &Owner) -> Option<Term> {
+        if kind == 2 {
+            let add = i64::from(argument);
+            return (argument <= LAST).then_some(Term { place: Placed::ZERO, name: 0, add });
+        }
+        let name = owner.token(argument)?;
+        let place = match kind {
+            0 => Placed::start(name),
+            1 => Placed::end(name),
+            _ => return None,
+        };
+        Some(Term { place, name, add: 0 })
+    }
+}
+
+/// Right minus left is at least lower and at most upper, as whole numbers.
+pub struct Atom {
+    left: usize,
+    right: usize,
+    last_name: usize,
+    lower: i64,
+    upper: i64,
+}
+
+impl Test for Atom {
+    const KIND: Kind = Kind::Book;
+
+    fn read(r: &[u32], owner: &Owner) -> Option<Atom> {
+        let left = Term::read(r[0], r[1], owner)?;
+        let right = Term::read(r[2], r[3], owner)?;
+        let (lower, upper) = (r[4], r[5]);
+        if lower > LAST || (upper != N && !(lower..=LAST).contains(&upper)) {
+            return None;
+        }
+        // What the terms add moves to the bounds, once for all.
+        let moved = left.add - right.add;
+        Some(Atom {
+            left: left.place,
+            right: right.place,
+            last_name: left.name.max(right.name),
+            lower: i64::from(lower) + moved,
+            upper: if upper == N { i64::MAX } else { i64::from(upper) + moved },
+        })
+    }
+
+    fn last_name(&self) -> usize {
+        self.last_name
+    }
+
+    fn holds(&self, placed: &Placed) -> bool {
+        // Signed: the right may come first.
+        let difference = placed.time(self.right) - placed.time(self.left);
+        self.lower <= difference && difference <= self.upper
+    }
+}
+
+/// Faults 12 and 0.
+pub fn judge_rules<T: Test>(book: &Book<T>, tokens: &Tokens) -> Answer {
+    // A rule without trigger is asked once, and fault 12 then shows token 0.
+    let once = [Span::default()];
+    let mut examined = 0;
+    for (number, rule) in book.rules.iter().enumerate() {
+        let triggers = rule.trigger.map_or(&once[..], |value| tokens.of(value));
+        let alternatives = &book.alternatives[rule.alternatives.clone()];
+        for trigger in triggers {
+            if !alternatives.iter().any(|a| can_be_met(book, tokens, a, *trigger)) {
+                return [12, number as u32, trigger.token];
+            }
+            examined += 1;
+        }
+    }
+    [0, examined, 0]
+}
+
+/// Whether some choice of one token for each name makes all tests hold. Goes
+/// through the product of the lists like a counter, and leaves out what a test
+/// on the names placed so far rules out.
+fn can_be_met<T: Test>(
+    book: &Book<T>,
+    tokens: &Tokens,
+    alternative: &Alternative,
+    trigger: Span,
+) -> bool {
+    let names = &book.names[alternative.names.clone()];
+    let ready = &alternative.ready;
+    let mut tests: [&[T]; 5] = [&[]; 5];
+    for (k, own) in tests.iter_mut().enumerate() {
+        *own = &book.tests[ready[k]..ready[k + 1]];
+    }
+    let mut placed = Placed::new(trigger);
+    if !tests[0].iter().all(|t| t.holds(&placed)) {
+        return false;
+    }
+
+    let mut lists: [&[Span]; 5] = [&[]; 5];
+    for (list, &name) in lists[1..].iter_mut().zip(names) {
+        *list = tokens.of(name);
+        if list.is_empty() {
+            return false;
+        }
+    }
+    let last = names.len();
+    if last == 0 {
+        return true;
+    }
+
+    let mut next = [0; 5];
+    let mut name = 1;
+    loop {
+        // The last name in one go; then a name before it moves on.
+        if name == last {
+            let found = lists[name].iter().any(|span| {
+                placed.put(name, *span);
+                tests[name].iter().all(|t| t.holds(&placed))
+            });
+            if found {
+                return true;
+            }
+            name -= 1;
+        }
+        if name == 0 {
+            return false;
+        }
+        if let Some(span) = lists[name].get(next[name]) {
+            next[name] += 1;
+            placed.put(name, *span);
+            if tests[name].iter().all(|t| t.holds(&placed)) {
+                name += 1;
+                next[name] = 0;
+            }
+        } else {
+            name -= 1;
+        }
+    }
+}

@@ -1,0 +1,175 @@
+//! The law's specimens, by name, with the lines it expects, and some more for
+//! the traps it names.
+
+use crate::generate::draft::{alternative, plan_words, AlternativeDraft, Draft, NO_TRIGGER};
+use crate::layout::{Answer, Kind, N};
+
+pub enum Call {
+    Judge(Vec<u32>, Vec<u32>),
+    JudgeSheet(Vec<u32>, Vec<u32>),
+    /// A sheet and the words of room.
+    Translate(Vec<u32>, usize),
+}
+
+pub struct Specimen {
+    pub name: &'static str,
+    pub call: Call,
+    pub expected: Answer,
+}
+
+pub const E: [u32; 52] = [
+    1, 52, 2, 14, 4, 18, 1, 30, 1, 34, 1, 38, 2, 40, // header
+    0, 2, 2, 2, // variables: decoder, RIP
+    1, N, 2, 1, N, 1, 1, N, 2, 5, 60, 3, // values
+    1, 1, 0, 1, // rule
+    0, 1, 0, 2, // alternative
+    0, 1, // name
+    0, 1, 0, 0, 0, N, 1, 0, 1, 1, 0, N, // atoms
+];
+/// E's rule as a sheet: the job starts, equals, is during or finishes.
+pub const E_SHEET: [u32; 43] = [
+    2, 43, 2, 14, 4, 18, 1, 30, 1, 34, 1, 38, 1, 40, // header
+    0, 2, 2, 2, // variables
+    1, N, 2, 1, N, 1, 1, N, 2, 5, 60, 3, // values
+    1, 1, 0, 1, // rule
+    0, 1, 0, 1, // alternative
+    0, 1, // name
+    0, 1, 864, // constraint
+];
+pub const P1: [u32; 21] = [1, 21, 2, 0, 3, 3, 4, 0, 10, 1, 30, 0, 10, 0, 10, 1, 20, 0, 10, 1, 10];
+pub const P2: [u32; 19] = [1, 19, 2, 0, 2, 2, 4, 0, 10, 1, 40, 0, 10, 1, 20, 0, 10, 1, 10];
+pub const EMPTY_PLAN: [u32; 7] = [1, 7, 2, 0, 0, 0, 0];
+
+/// The plan with one word changed.
+pub fn with(words: &[u32], at: usize, word: u32) -> Vec<u32> {
+    let mut out = words.to_vec();
+    out[at] = word;
+    out
+}
+
+/// E's variables with one rule of its own.
+fn one_rule(kind: Kind, trigger: [u32; 2], alternatives: Vec<AlternativeDraft>) -> Vec<u32> {
+    let decoder = vec![[1, N, 2], [1, N, 1]];
+    let rip = vec![[1, N, 2], [5, 60, 3]];
+    let mut draft = Draft::new(kind, vec![decoder, rip]);
+    draft.rule(trigger, alternatives);
+    draft.words()
+}
+
+/// A book that wants a token of value 0 whose length is 10..20.
+fn bounds() -> Vec<u32> {
+    one_rule(Kind::Book, NO_TRIGGER, vec![alternative(&[[0, 0]], &[&[0, 1, 1, 1, 10, 20]])])
+}
+
+fn one_token(duration: u32) -> Vec<u32> {
+    plan_words(&vec![vec![[0, duration]], vec![]])
+}
+
+/// 0..10 on the decoder's line, 10..20 on the RIP's.
+fn side_by_side() -> Vec<u32> {
+    plan_words(&vec![vec![[0, 10]], vec![[0, 10], [1, 10]]])
+}
+
+fn relation(names: &[[u32; 2]], set: u32) -> Vec<u32> {
+    one_rule(Kind::Sheet, [0, 0], vec![alternative(names, &[&[0, 1, set]])])
+}
+
+fn two_sets(first: u32, second: u32) -> Vec<u32> {
+    let tests: [&[u32]; 2] = [&[0, 1, first], &[0, 1, second]];
+    one_rule(Kind::Sheet, [1, 1], vec![alternative(&[[0, 1]], &tests)])
+}
+
+pub fn all() -> Vec<Specimen> {
+    let mut list = from_the_law();
+    list.extend(traps());
+    list
+}
+
+fn from_the_law() -> Vec<Specimen> {
+    let e = |plan: Vec<u32>| Call::Judge(E.to_vec(), plan);
+    let p2 = |at: usize, word: u32| Call::Judge(E.to_vec(), with(&P2, at, word));
+    let free = |names: &[[u32; 2]]| {
+        let book = one_rule(Kind::Book, NO_TRIGGER, vec![alternative(names, &[])]);
+        Call::Judge(book, EMPTY_PLAN.to_vec())
+    };
+    let bounds = |duration| Call::Judge(bounds(), one_token(duration));
+    let meeting = |set| Call::JudgeSheet(relation(&[[1, 1]], set), side_by_side());
+    let room = |words: usize| Call::Translate(E_SHEET.to_vec(), words);
+    let sets = |first, second| Call::Translate(two_sets(first, second), 16_384);
+    let made = |(name, call, expected)| Specimen { name, call, expected };
+    [
+        ("P1", e(P1.to_vec()), [12, 0, 3]),
+        ("P2", e(P2.to_vec()), [0, 2, 0]),
+        ("empty plan", e(EMPTY_PLAN.to_vec()), [0, 0, 0]),
+        ("job of 20 at 4", p2(14, 4), [9, 1, 1]),
+        ("job of 20 at 61", p2(14, 61), [9, 1, 1]),
+        ("job of 20 at 5", p2(14, 5), [0, 2, 0]),
+        // Passes 9, and then runs over the end of UTF-8.
+        ("job of 20 at 60", p2(14, 60), [12, 0, 1]),
+        ("second decoder value 0", p2(9, 0), [10, 0, 1]),
+        ("second decoder value 2", p2(9, 2), [8, 0, 1]),
+        ("second decoder to the last tick", p2(10, 999_999_990), [0, 2, 0]),
+        ("second decoder past the last tick", p2(10, 999_999_991), [11, 0, 1]),
+        ("no trigger, no names", free(&[]), [0, 1, 0]),
+        ("no trigger, one name", free(&[[0, 0]]), [12, 0, 0]),
+        ("bounds 10..20, difference 9", bounds(9), [12, 0, 0]),
+        ("bounds 10..20, difference 10", bounds(10), [0, 1, 0]),
+        ("bounds 10..20, difference 20", bounds(20), [0, 1, 0]),
+        ("bounds 10..20, difference 21", bounds(21), [12, 0, 0]),
+        ("0..10 meets 10..20", meeting(1 << 1), [0, 1, 0]),
+        ("0..10 isn't before 10..20", meeting(1 << 0), [12, 0, 0]),
+        ("E as a sheet, P1", Call::JudgeSheet(E_SHEET.to_vec(), P1.to_vec()), [12, 0, 3]),
+        ("E as a sheet, P2", Call::JudgeSheet(E_SHEET.to_vec(), P2.to_vec()), [0, 2, 0]),
+        ("E as a sheet, translated", room(16_384), [0, 106, 4]),
+        ("E as a sheet, room 106", room(106), [0, 106, 4]),
+        ("E as a sheet, room 105", room(105), [15, 106, 0]),
+        // 34 words, then 64 alternatives of one name and 240 atoms.
+        ("sets of 8 and 8", sets(255, 255), [0, 1858, 64]),
+        ("sets of 5 and 13", sets(31, 8191), [13, 0, 0]),
+    ]
+    .map(made)
+    .into()
+}
+
+fn traps() -> Vec<Specimen> {
+    let judge = |trigger, alternatives, plan| {
+        Call::Judge(one_rule(Kind::Book, trigger, alternatives), plan)
+    };
+    let never: &[u32] = &[2, 1, 2, 0, 0, N];
+    let lines = vec![vec![[0, 10], [1, 10], [0, 10]], vec![]];
+    // Each atom alone has a token that suits it, no token suits both.
+    let apart: [&[u32]; 2] = [&[0, 1, 2, 0, 0, 0], &[2, 20, 0, 1, 0, 0]];
+    let made = |(name, call, expected)| Specimen { name, call, expected };
+    [
+        (
+            "one choice for all atoms",
+            judge(NO_TRIGGER, vec![alternative(&[[0, 0]], &apart)], plan_words(&lines)),
+            [12, 0, 0],
+        ),
+        (
+            "one token serves trigger and two names",
+            judge([0, 0], vec![alternative(&[[0, 0], [0, 0]], &[])], one_token(1)),
+            [0, 1, 0],
+        ),
+        (
+            "right comes first",
+            judge([0, 0], vec![alternative(&[], &[&[1, 0, 0, 0, 0, N]])], one_token(1)),
+            [12, 0, 0],
+        ),
+        (
+            "a later alternative is met",
+            judge([0, 0], vec![alternative(&[], &[never]), alternative(&[], &[])], one_token(1)),
+            [0, 1, 0],
+        ),
+        (
+            "during has no shared end",
+            Call::JudgeSheet(
+                relation(&[[1, 1]], 1 << 8),
+                plan_words(&vec![vec![[1, 10], [0, 10]], vec![[0, 5], [1, 15]]]),
+            ),
+            [12, 0, 1],
+        ),
+    ]
+    .map(made)
+    .into()
+}

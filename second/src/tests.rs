@@ -1,0 +1,291 @@
+use crate::generate::draft::{plan_words, AlternativeDraft, Draft, Lines, NO_TRIGGER};
+use crate::generate::random::{pair, SMALL};
+use crate::generate::rng::Rng;
+use crate::generate::{extreme, load};
+use crate::layout::{Kind, LAST, N};
+use crate::specimens::{all, with, Call, E, EMPTY_PLAN, E_SHEET, P1, P2};
+use crate::words::to_bytes;
+use crate::{bytes, judge, judge_sheet, open_reader, step, translate, Position, Seen};
+
+#[test]
+fn specimens_give_their_lines() {
+    for specimen in all() {
+        let answer = match &specimen.call {
+            Call::Judge(book, plan) => judge(book, plan),
+            Call::JudgeSheet(sheet, plan) => judge_sheet(sheet, plan),
+            Call::Translate(sheet, room) => translate(sheet, &mut vec![0; *room]),
+        };
+        assert_eq!(answer, specimen.expected, "{}", specimen.name);
+    }
+}
+
+#[test]
+fn e_translates_word_for_word() {
+    let mut room = vec![7; 110];
+    assert_eq!(translate(&E_SHEET, &mut room), [0, 106, 4]);
+    let head = [1, 106, 2, 14, 4, 18, 1, 30, 4, 34, 4, 50, 8, 58];
+    assert_eq!(room[..14], head);
+    assert_eq!(room[14..30], E[14..30]);
+    assert_eq!(room[30..34], [1, 1, 0, 4]);
+    assert_eq!(room[34..50], [0, 1, 0, 2, 1, 1, 2, 2, 2, 1, 4, 2, 3, 1, 6, 2]);
+    assert_eq!(room[50..58], [0, 1, 0, 1, 0, 1, 0, 1]);
+    let starts = [0, 0, 0, 1, 0, 0, 1, 0, 1, 1, 1, N];
+    let equals = [0, 0, 0, 1, 0, 0, 1, 0, 1, 1, 0, 0];
+    let during = [0, 1, 0, 0, 1, N, 1, 0, 1, 1, 1, N];
+    let finishes = [0, 1, 0, 0, 1, N, 1, 0, 1, 1, 0, 0];
+    assert_eq!(room[58..106], [starts, equals, during, finishes].concat());
+    assert_eq!(room[106..], [7; 4], "words past the book stay");
+    assert_eq!(judge(&room[..106], &P1), [12, 0, 3]);
+    assert_eq!(judge(&room[..106], &P2), [0, 2, 0]);
+
+    let mut short = vec![7; 105];
+    assert_eq!(translate(&E_SHEET, &mut short), [15, 106, 0]);
+    assert_eq!(short, [7; 105], "refused, the room stays");
+}
+
+#[test]
+fn the_last_constraint_turns_fastest() {
+    let mut draft = Draft::new(Kind::Sheet, vec![vec![[1, N, 1]]]);
+    let tests = vec![vec![0, 1, 0b11], vec![1, 0, 1 << 1 | 1 << 12]];
+    let one = AlternativeDraft { names: vec![[0, 0]], tests };
+    draft.rule([0, 0], vec![one]);
+    let mut room = vec![0; 200];
+    let [_, written, alternatives] = translate(&draft.words(), &mut room);
+    assert_eq!(alternatives, 4);
+    let before = [1, 0, 0, 1, 1, N];
+    let meets = [1, 0, 0, 1, 0, 0];
+    let meets_back = [1, 1, 0, 0, 0, 0];
+    let after_back = [1, 0, 0, 1, 1, N];
+    let atoms = [before, meets_back, before, after_back, meets, meets_back, meets, after_back];
+    assert_eq!(room[written as usize - 48..written as usize], atoms.concat());
+}
+
+#[test]
+fn header_faults_name_the_first_wrong_word() {
+    assert_eq!(judge(&E[..13], &P2), [1, 0, 0]);
+    assert_eq!(judge(&[0; 16_385], &P2), [1, 0, 0]);
+    for word in 0..14 {
+        // The last count is only too small for the length, so word 12 stays good.
+        let expected = if word == 12 { [3, 0, 0] } else { [2, word as u32, 0] };
+        let other = if word == 12 { 1 } else { 70_000 };
+        assert_eq!(judge(&with(&E, word, other), &P2), expected);
+    }
+    assert_eq!(judge(&with(&E, 12, 2049), &P2), [2, 12, 0]);
+    // A count within its limits moves the next offset.
+    assert_eq!(judge(&with(&E, 2, 3), &P2), [2, 5, 0]);
+}
+
+#[test]
+fn record_faults() {
+    let cases: [(usize, u32, [u32; 3]); 24] = [
+        (14, 1, [4, 0, 0]),
+        (15, 0, [4, 0, 0]),
+        (15, 33, [4, 0, 0]),
+        (15, 1, [4, 0, 1]),
+        (17, 1, [4, 0, 2]),
+        (17, 3, [4, 0, 1]),
+        (18, 0, [4, 1, 0]),
+        (19, LAST + 1, [4, 1, 0]),
+        (19, N - 1, [4, 1, 0]),
+        (20, 4, [4, 1, 0]),
+        (28, 4, [4, 1, 3]),
+        (30, 2, [4, 2, 0]),
+        (31, 2, [4, 2, 0]),
+        (30, N, [4, 2, 0]),
+        (33, 0, [4, 2, 0]),
+        (35, 0, [4, 3, 1]),
+        (37, 33, [4, 3, 0]),
+        (37, 1, [4, 3, 1]),
+        (38, 2, [4, 4, 0]),
+        (39, 2, [4, 4, 0]),
+        (40, 3, [4, 5, 0]),
+        (41, 2, [4, 5, 0]),
+        (50, LAST + 1, [4, 5, 1]),
+        (51, N - 1, [4, 5, 1]),
+    ];
+    for (at, word, expected) in cases {
+        assert_eq!(judge(&with(&E, at, word), &P2), expected, "word {at} = {word}");
+    }
+    let mut no_trigger = with(&E, 30, N);
+    no_trigger[31] = 0;
+    assert_eq!(judge(&no_trigger, &P2), [4, 5, 0], "0 needs a trigger");
+}
+
+#[test]
+fn left_over_records() {
+    for (table, expected) in [(1, 0), (3, 2), (4, 3), (5, 3)] {
+        let mut draft = Draft::new(Kind::Book, vec![vec![[1, N, 1]]]);
+        draft.spare[table] = 1;
+        let count = u32::from(expected == 0);
+        assert_eq!(judge(&draft.words(), &[]), [4, expected, count]);
+    }
+}
+
+#[test]
+fn plan_faults_before_the_tokens() {
+    assert_eq!(judge(&E, &P2[..6]), [5, 0, 0]);
+    assert_eq!(judge(&E, &[0; 16_385]), [5, 0, 0]);
+    for word in 0..7 {
+        let expected = [6, word as u32, 0];
+        assert_eq!(judge(&E, &with(&P2, word, 513)), expected);
+    }
+    assert_eq!(judge(&E, &with(&EMPTY_PLAN, 6, 1)), [7, 0, 0]);
+}
+
+#[test]
+fn the_sheet_has_limits_of_its_own() {
+    assert_eq!(judge_sheet(&E, &P2), [2, 0, 0]);
+    assert_eq!(judge(&E_SHEET, &P2), [2, 0, 0]);
+    for (at, word) in [(40, 2), (41, 2), (42, 0), (42, 8192)] {
+        assert_eq!(judge_sheet(&with(&E_SHEET, at, word), &P2), [4, 5, 0]);
+        assert_eq!(translate(&with(&E_SHEET, at, word), &mut [0; 200]), [4, 5, 0]);
+    }
+    assert_eq!(judge_sheet(&with(&E_SHEET, 42, 8191), &P1), [0, 2, 0]);
+}
+
+#[test]
+fn sums_past_32_bits_are_refused() {
+    for case in 0..20 {
+        let draft = extreme::past_32_bits(&mut Rng::new(1, case));
+        let one = |a: &AlternativeDraft| -> u64 {
+            a.tests.iter().map(|t| u64::from(t[2].count_ones())).product()
+        };
+        let sum: u64 = draft.rules[0].alternatives.iter().map(one).sum();
+        assert!((0..4).contains(&(sum - (1 << 32))));
+        assert_eq!(translate(&draft.words(), &mut [0; 16_384]), [13, 0, 0]);
+    }
+}
+
+#[test]
+fn largest_inputs_pass() {
+    let (book, plan) = extreme::largest(Kind::Book);
+    assert_eq!((book.len(), plan.len()), (16_384, 16_383));
+    assert_eq!(judge(&book, &plan), [0, 0, 0]);
+    let sheet = load::largest_sheet();
+    let mut room = vec![0; 16_384];
+    assert_eq!(translate(&sheet, &mut room), [0, 16_384, 888]);
+    assert_eq!(judge(&room, &plan), [0, 0, 0]);
+}
+
+#[test]
+fn bytes_out_of_bounds_are_no_words() {
+    let (book, plan) = (to_bytes(&E), to_bytes(&P2));
+    assert_eq!(bytes::judge(&book, &plan), [0, 2, 0]);
+    assert_eq!(bytes::judge(&book[1..], &plan), [1, 0, 0]);
+    assert_eq!(bytes::judge(&book, &plan[1..]), [5, 0, 0]);
+    assert_eq!(bytes::judge(&vec![0; 65_540], &plan), [1, 0, 0]);
+    assert_eq!(bytes::judge(&book, &vec![0; 65_540]), [5, 0, 0]);
+}
+
+#[test]
+fn a_reader_hands_out_the_line_and_then_no_more() {
+    assert_eq!(open_reader(&E, &P2, 2), ([17, 0, 0], N, 0));
+    assert_eq!(open_reader(&E, &P2[..6], 2), ([5, 0, 0], N, 0));
+    assert_eq!(open_reader(&E, &P2, 1), ([0, 0, 0], 0, 0));
+    let mut at = Position { line: 1, token: 0, start: 0 };
+    for (value, start, end) in [(0, 0, 10), (1, 10, 30), (0, 30, 40), (1, 40, 50)] {
+        let (seen, next) = step(&P2, at).expect("a token");
+        assert_eq!(seen, Seen { value, start, end });
+        assert_eq!(next, Position { line: 1, token: at.token + 1, start: end });
+        at = next;
+    }
+    assert_eq!(step(&P2, at), None);
+}
+
+#[test]
+fn a_step_takes_any_words_and_any_position() {
+    let at = |line, token, start| Position { line, token, start };
+    assert_eq!(step(&[], at(0, 0, 0)), None);
+    assert_eq!(step(&[0, 0, N], at(N - 1, 0, 0)), None);
+    assert_eq!(step(&P2, at(2, 0, 0)), None);
+    assert_eq!(step(&P2, at(0, N, 0)), None);
+    assert_eq!(step(&P2, at(0, 0, N)), None);
+    assert_eq!(step(&P2, at(0, 0, LAST - 9)), None);
+    assert!(step(&P2, at(0, 0, LAST - 10)).is_some());
+    assert_eq!(step(&P2[..8], at(0, 0, 0)), None, "half a token");
+    // In 32 bits first and token would come to 0.
+    assert_eq!(step(&[0, 0, 1, N, N, 4, 5], at(0, 1, 0)), None);
+    assert!(step(&[0, 0, 1, 0, N, 4, 5], at(0, 0, 0)).is_some());
+}
+
+/// All tests at the end of each choice, and every choice tried.
+fn slow_answer(draft: &Draft, lines: &Lines) -> [u32; 3] {
+    let mut examined = 0;
+    let tokens = |name: [u32; 2]| -> Vec<(i64, i64, u32)> {
+        let mut start = 0;
+        let mut out = Vec::new();
+        for (i, token) in lines[name[0] as usize].iter().enumerate() {
+            let end = start + i64::from(token[1]);
+            if token[0] == name[1] {
+                out.push((start, end, i as u32));
+            }
+            start = end;
+        }
+        out
+    };
+    for (number, rule) in draft.rules.iter().enumerate() {
+        let triggers = match rule.trigger {
+            NO_TRIGGER => vec![(0, 0, 0)],
+            trigger => tokens(trigger),
+        };
+        for trigger in triggers {
+            let met = rule.alternatives.iter().any(|a| {
+                let mut choices = vec![vec![trigger]];
+                for &name in &a.names {
+                    let longer = |c: &Vec<(i64, i64, u32)>| {
+                        let one = |t| [c.clone(), vec![t]].concat();
+                        tokens(name).into_iter().map(one).collect::<Vec<_>>()
+                    };
+                    choices = choices.iter().flat_map(longer).collect();
+                }
+                choices.iter().any(|c| a.tests.iter().all(|t| slow_test(t, c)))
+            });
+            if !met {
+                return [12, number as u32, trigger.2];
+            }
+            examined += 1;
+        }
+    }
+    [0, examined, 0]
+}
+
+fn slow_test(test: &[u32], chosen: &[(i64, i64, u32)]) -> bool {
+    let time = |kind: u32, argument: u32| match kind {
+        0 => chosen[argument as usize].0,
+        1 => chosen[argument as usize].1,
+        _ => i64::from(argument),
+    };
+    let difference = time(test[2], test[3]) - time(test[0], test[1]);
+    difference >= i64::from(test[4]) && (test[5] == N || difference <= i64::from(test[5]))
+}
+
+#[test]
+fn the_search_agrees_with_trying_everything() {
+    let mut met = 0;
+    for case in 0..3_000 {
+        let mut rng = Rng::new(5, case);
+        let (draft, lines) = pair(&mut rng, Kind::Book, SMALL);
+        let answer = judge(&draft.words(), &plan_words(&lines));
+        assert_eq!(answer, slow_answer(&draft, &lines), "case {case}");
+        met += u32::from(answer[0] == 0 && answer[1] > 0);
+    }
+    assert!(met > 300, "{met} were met");
+}
+
+#[test]
+fn a_translated_sheet_judges_as_the_sheet_does() {
+    let mut done = 0;
+    for case in 0..3_000 {
+        let mut rng = Rng::new(6, case);
+        let (draft, lines) = pair(&mut rng, Kind::Sheet, SMALL);
+        let (sheet, plan) = (draft.words(), plan_words(&lines));
+        let mut room = vec![0; 16_384];
+        let answer = translate(&sheet, &mut room);
+        if answer[0] == 0 {
+            let book = &room[..answer[1] as usize];
+            assert_eq!(judge(book, &plan), judge_sheet(&sheet, &plan), "case {case}");
+            done += 1;
+        }
+    }
+    assert!(done > 300, "{done} were translated");
+}
