@@ -147,15 +147,15 @@ module _ (e : ℕ) (b p : List ℕ) (t : Token) where
   unfolding metHere alternativeMet alternativeAt placeable allHold
   alt-is at a h = ap (λ (x : Alternative). placeable e b p (x .ask) (x .asks) (x .names) (x .name) 1 (triggered t)) (sym h)
 
-  -- it has no names: its asks decide
-  pub alt-bare : (at : ℕ) (a : Alternative) (c : Choice) → a ≡ alternativeOf e b at → c ≡ triggered t → a .names ≡ 0
-      → metHere at ≡ allHold e b c (a .asks) (a .ask)
-  alt-bare at a c h same q = rw same (alt-is at a h ∙ place-none e b p (a .ask) (a .asks) (a .names) (a .name) 1 (triggered t) q)
+  -- placing its names decides
+  pub alt-placed : (at : ℕ) (a : Alternative) (c : Choice) → a ≡ alternativeOf e b at → c ≡ triggered t
+      → metHere at ≡ placeable e b p (a .ask) (a .asks) (a .names) (a .name) 1 c
+  alt-placed at a c h same = rw same (alt-is at a h)
 
-  -- it has some: the tokens for the first decide
-  pub alt-named : (at : ℕ) (a : Alternative) (c : Choice) (w : Tokens) → a ≡ alternativeOf e b at → c ≡ triggered t → (a .names ≡ 0 → ⊥) → w ≡ tokensOf b p (a .name)
+  -- it has two or more: the tokens for the first decide
+  pub alt-named : (at : ℕ) (a : Alternative) (c : Choice) (w : Tokens) → a ≡ alternativeOf e b at → c ≡ triggered t → 2 ≤ a .names → w ≡ tokensOf b p (a .name)
       → metHere at ≡ tokenFor e b p (a .ask) (a .asks) (a .names - 1) (a .name + 2) 1 c (w .value) (w .count) (w .place) 0
-  alt-named at a c w h same q f = rw same (alt-is at a h ∙ place-some e b p (a .ask) (a .asks) (a .names) (a .name) 1 (triggered t) w q f)
+  alt-named at a c w h same q f = rw same (alt-is at a h ∙ place-some e b p (a .ask) (a .asks) (a .names) (a .name) 1 (triggered t) w (λ z. omega arith) f)
 
   pub alt-none : (n at : ℕ) → n ≡ 0 → metAt e b p t n at ≡ false
   unfolding metAt any run

@@ -1,12 +1,15 @@
 // Whether an alternative of a rule can be met for one trigger token: the search.
 ghost use mathlib.Core.Path.{_≡_};
-ghost use Prim.Native.Nat.{_+_, _*_, _≤_, _<_, _^_};
-ghost use lib.ListN.{getD, set};
-ghost use Rattle.clock.specs.Clock.{at};
+ghost use mathlib.Core.Bool.{true, false, _&&_};
+ghost use Prim.Native.Nat.{ℕ, _+_, _*_, _<_, _^_};
+ghost use lib.Dec.{leb, ltb};
+ghost use lib.ListN.{getD, set, length};
+ghost use Rattle.clock.specs.Clock.{at, noLimit, inBounds};
 ghost use Rattle.book.specs.Layout.{fifthWidth, offset};
 ghost use Rattle.book.specs.Rules.{atomAt, constraintAt};
 ghost use Rattle.matching.specs.Met.{nobody, triggered, put, tokenTime, timeOf, atomHolds, constraintHolds};
 ghost use Rattle.matching.specs.Placed.{askHolds, allHold, placeable, tokenFor, metAt, Kept, tokensOf, alternativeOf};
+ghost use Rattle.matching.specs.Window.{inRange, inWindow, own, pick, asked, askedAt, Narrowed, Tells, anyFits};
 use clock::Time;
 use plan::Token;
 use words::number_at;
@@ -159,6 +162,243 @@ fn tokens_of(b: &[u32], p: &[u32], name: usize) -> Tokens
     }
 }
 
+// The numbers from one to another: none where `to` is below `from`.
+pub struct Range {
+    pub from: u64,
+    pub to: u64,
+}
+
+// The starts and the ends that the last name's token may have so that all asks hold, if a window can say so.
+pub struct Window {
+    pub starts: Range,
+    pub ends: Range,
+    pub plain: bool,
+}
+
+// What some ask isn't said by.
+fn not_plain() -> Window
+    ensures { λ r. ⌜ r .plain ≡ false ⌝ }
+{
+    let none = Range { from: 1, to: 0 };
+    Window {
+        starts: none,
+        ends: none,
+        plain: false,
+    }
+}
+
+// Every number.
+fn all_times() -> Range
+    ensures { λ r. ⌜ ((x : ℕ) → x < 2 ^ 64 → inRange r x ≡ true) ⌝ }
+{
+    Range {
+        from: 0,
+        to: 18446744073709551615,
+    }
+}
+
+fn greater(a: u64, b: u64) -> u64
+    ensures { λ r. ⌜ ((x : ℕ) → leb r x ≡ (leb a x && leb b x)) ⌝ }
+{
+    if a < b { b } else { a }
+}
+
+fn smaller(a: u64, b: u64) -> u64
+    ensures { λ r. ⌜ ((x : ℕ) → leb x r ≡ (leb x a && leb x b)) ⌝ }
+{
+    if a < b { a } else { b }
+}
+
+// What lies in both ranges.
+fn both(a: Range, b: Range) -> Range
+    ensures { λ r. ⌜ ((x : ℕ) → inRange r x ≡ (inRange a x && inRange b x)) ⌝ }
+{
+    let from = greater(a.from, b.from);
+    let to = smaller(a.to, b.to);
+    Range { from, to }
+}
+
+// The lefts that `right` is within the bounds of.
+fn lefts(right: u64, lower: u32, upper: u32) -> Range
+    ensures { λ r. ⌜ ((x : ℕ) → inBounds noLimit x right lower upper ≡ inRange r x) ⌝ }
+{
+    if right < lower as u64 {
+        return Range { from: 1, to: 0 };
+    }
+    let to = right - lower as u64;
+    if upper == Time::NO_LIMIT {
+        return Range { from: 0, to };
+    }
+    if right < upper as u64 {
+        return Range { from: 0, to };
+    }
+    let from = right - upper as u64;
+    Range { from, to }
+}
+
+// The rights that are within the bounds of `left`.
+fn rights(left: u64, lower: u32, upper: u32) -> Range
+    requires { ⌜ left < 2 ^ 63 ⌝ }
+    ensures { λ r. ⌜ ((x : ℕ) → x < 2 ^ 64 → inBounds noLimit left x lower upper ≡ inRange r x) ⌝ }
+{
+    let from = left + lower as u64;
+    if upper == Time::NO_LIMIT {
+        return Range {
+            from,
+            to: 18446744073709551615,
+        };
+    }
+    let to = left + upper as u64;
+    Range { from, to }
+}
+
+// The window with the starts (kind 0) or the ends narrowed to a range.
+fn narrow(w: Window, kind: u32, g: Range) -> Window
+    ensures { λ r. ⌜ (r .plain ≡ w .plain) × ((s e : ℕ) → inWindow r s e ≡ (inWindow w s e && inRange g (pick kind s e))) ⌝ }
+{
+    let starts = w.starts;
+    let ends = w.ends;
+    let plain = w.plain;
+    if kind == 0 {
+        let fewer = both(starts, g);
+        return Window {
+            starts: fewer,
+            ends,
+            plain,
+        };
+    }
+    let fewer = both(ends, g);
+    Window {
+        starts,
+        ends: fewer,
+        plain,
+    }
+}
+
+// Whether a term is the start or the end of the token of name number k.
+fn own(kind: u32, argument: u32, k: usize) -> bool
+    ensures { λ r. ⌜ r ≡ own kind argument k ⌝ }
+{
+    (kind < 2) & (argument as usize == k)
+}
+
+// Whether the choice has a place for name number k.
+fn has_place(c: &[u64], k: usize) -> bool
+    requires { ⌜ k < 2 ^ 60 ⌝ }
+    ensures { λ r. ⌜ r ≡ ltb (2 * k + 1) (length (now (c .entry))) ⌝ }
+{
+    2 * k + 1 < c.len()
+}
+
+// The window narrowed by two terms, of kinds i and j, at most one of which is of name number k.
+fn narrow_by(
+    w: Window,
+    c: &[u64; 10],
+    k: usize,
+    i: u32,
+    x: u32,
+    j: u32,
+    y: u32,
+    lower: u32,
+    upper: u32,
+) -> Window
+    requires { ⌜ 2 * k + 1 < length (now c) ⌝ }
+    ensures { λ r. ⌜ Narrowed w r (asked (now (c .entry)) k i x j y lower upper) ⌝ }
+{
+    let left = term(c, i, x);
+    let right = term(c, j, y);
+    let own_left = own(i, x, k);
+    let own_right = own(j, y, k);
+    if (own_left & own_right) | (i > 2) | (j > 2) | (left.tick > Time::LAST_TICK) {
+        return not_plain();
+    }
+    if own_left {
+        return narrow(w, i, lefts(right.tick, lower, upper));
+    }
+    if own_right {
+        return narrow(w, j, rights(left.tick, lower, upper));
+    }
+    if left.in_bounds(right, lower, upper) {
+        return w;
+    }
+    narrow(w, 0, Range { from: 1, to: 0 })
+}
+
+// The window narrowed by the atom at a place.
+fn narrow_at(w: Window, b: &[u32], c: &[u64; 10], k: usize, place: usize) -> Window
+    requires { ⌜ (2 * k + 1 < length (now c)) × (place < 2 ^ 60) ⌝ }
+    ensures { λ r. ⌜ Narrowed w r (askedAt (now (b .entry)) (now (c .entry)) k place) ⌝ }
+{
+    let i = word_at(b, place);
+    let x = word_at(b, place + 1);
+    let j = word_at(b, place + 2);
+    let y = word_at(b, place + 3);
+    let lower = word_at(b, place + 4);
+    let upper = word_at(b, place + 5);
+    narrow_by(w, c, k, i, x, j, y, lower, upper)
+}
+
+// The starts and ends that name number k, the last, may have so that the m asks hold.
+fn window_of(e: usize, b: &[u32], c: &[u64; 10], k: usize, m: usize, ask: usize) -> Window
+    requires { ⌜ (ask + 8 * m < 2 ^ 60) × (k < 2 ^ 60) ⌝ }
+    ensures { λ r. ⌜ Tells e (now (b .entry)) (now (c .entry)) k m ask r ⌝ }
+{
+    if e == 2 {
+        return not_plain();
+    }
+    let room = has_place(c, k);
+    if !room {
+        return not_plain();
+    }
+    let every = all_times();
+    let mut w = Window {
+        starts: every,
+        ends: every,
+        plain: true,
+    };
+    let mut asks = m;
+    let mut place = ask;
+    while asks != 0 {
+        w = narrow_at(w, b, c, k, place);
+        asks -= 1;
+        place += 6;
+    }
+    w
+}
+
+// Whether one of the count tokens of a line, from a place on, is of a value, with start and end in the ranges. None starts
+// or ends before those in front of it: one that ends too early is passed over, and the search stops at one that starts
+// too late.
+fn last_token(p: &[u32], starts: Range, ends: Range, value: u32, count: u32, place: usize) -> bool
+    requires { ⌜ place + 2 * count < 2 ^ 60 ⌝ }
+    ensures { λ r. ⌜ r ≡ anyFits (now (p .entry)) starts ends value count place 0 ⌝ }
+{
+    let first = greater(starts.from, ends.from);
+    let last = smaller(starts.to, ends.to);
+    let mut tokens = count;
+    let mut at = place;
+    let mut start: u64 = 0;
+    while tokens != 0 {
+        if start > last {
+            return false;
+        }
+        let end = start + word_at(p, at + 1) as u64;
+        if end >= first {
+            if (word_at(p, at) == value)
+                & (starts.from <= start)
+                & (ends.from <= end)
+                & (end <= ends.to)
+            {
+                return true;
+            }
+        }
+        start = end;
+        at += 2;
+        tokens -= 1;
+    }
+    false
+}
+
 // Whether the n names from a place on can be given tokens, as names number k, k + 1, .. of the choice.
 fn place(
     n: usize,
@@ -178,21 +418,18 @@ fn place(
         return all_hold(e, b, c, m, ask);
     }
     let w = tokens_of(b, p, name);
-    try_tokens(
-        n - 1,
-        w.count,
-        w.place,
-        0,
-        w.value,
-        name + 2,
-        k,
-        c,
-        e,
-        b,
-        p,
-        ask,
-        m,
-    )
+    let value = w.value;
+    let count = w.count;
+    let at = w.place;
+    if n == 1 {
+        let fit = window_of(e, b, c, k, m, ask);
+        if fit.plain {
+            let starts = fit.starts;
+            let ends = fit.ends;
+            return last_token(p, starts, ends, value, count, at);
+        }
+    }
+    try_tokens(n - 1, count, at, 0, value, name + 2, k, c, e, b, p, ask, m)
 }
 
 // The same with name number k, of a value, given one of the count tokens that are left on its line; n names come after it.
@@ -279,12 +516,12 @@ pub fn met(e: usize, b: &[u32], p: &[u32], first: u32, n: u32, t: Token) -> bool
 {
     let mut found = false;
     let mut alternatives = n;
-    let mut place = number_at(b, 9) + 4 * first as usize;
+    let mut at = number_at(b, 9) + 4 * first as usize;
     'settled: while alternatives != 0 {
-        let a = alternative_at(e, b, place);
+        let a = alternative_at(e, b, at);
         let mut c = triggered(t);
-        if a.names == 0 {
-            if all_hold(e, b, &c, a.asks, a.ask) {
+        if a.names < 2 {
+            if place(a.names, a.name, 1, &mut c, e, b, p, a.ask, a.asks) {
                 found = true;
                 break 'settled;
             }
@@ -309,7 +546,7 @@ pub fn met(e: usize, b: &[u32], p: &[u32], first: u32, n: u32, t: Token) -> bool
             }
         }
         alternatives -= 1;
-        place += 4;
+        at += 4;
     }
     found
 }

@@ -10,6 +10,7 @@ use borrow.Fn.Kinds.{In}
 use borrow.Fn.PlainCycle.{Measures, is, falls, and}
 use Rattle.matching.proofs.Kept.{kept-refl, kept-widen, kept-tried}
 use Rattle.matching.proofs.Laws.{place-none, place-some, token-none, token-hit, token-skip, token-miss, token-rest}
+use Rattle.matching.proofs.Windows.{last-placed}
 use Rattle.matching.proofs.place.Reads as place
 use Rattle.matching.proofs.place.Kinds as place-kinds
 use Rattle.matching.proofs.+place+try_token+try_tokens.Lts-place as place-lts
@@ -22,6 +23,8 @@ use Rattle.matching.proofs.+place+try_token+try_tokens.Lts-try_tokens a
 use Rattle.matching.proofs.all_hold.Reads as all-hold-reads
 use Rattle.matching.proofs.put.Reads as put-reads
 use Rattle.matching.proofs.tokens_of.Reads as tokens-of-reads
+use Rattle.matching.proofs.window_of.Reads as window-of-reads
+use Rattle.matching.proofs.last_token.Reads as last-token-reads
 use Rattle.words.proofs.word_at.Reads as word-at-reads
 use Rattle.matching.proofs.+place+try_token+try_tokens.{statement}
 use Rattle.matching.proofs.+place+try_token+try_tokens.Tie.{close}
@@ -54,7 +57,18 @@ abbrev try-tokens-below : ℕ → In 3 try-tokens-kinds.ps
 try-tokens-below t = and 3 try-tokens-kinds.ps (falls 3 try-tokens-kinds.ps _<_ μ-try-tokens t) try-tokens.Pre
 
 abbrev place-claims : ℕ → place-lts.Claims
-place-claims t = (all-hold-reads.Asked, all-hold-reads.Learnt, tokens-of-reads.Asked, tokens-of-reads.Learnt, try-tokens-below t, try-tokens.Post)
+place-claims t = (
+  all-hold-reads.Asked,
+  all-hold-reads.Learnt,
+  tokens-of-reads.Asked,
+  tokens-of-reads.Learnt,
+  window-of-reads.Asked,
+  window-of-reads.Learnt,
+  last-token-reads.Asked,
+  last-token-reads.Learnt,
+  try-tokens-below t,
+  try-tokens.Post,
+)
 
 abbrev try-token-claims : ℕ → try-token-lts.Claims
 try-token-claims t = (put-reads.Asked, put-reads.Learnt, place-below t, place.Post)
@@ -66,10 +80,20 @@ place-returns : (t : ℕ) → place-lts.Need-returns (place-claims t) (place-at 
 place-returns t c = (c .all-hold .ensures ∙ sym (place-none _ _ _ _ _ _ _ _ _ (c .before .before .if1 .taken)), kept-refl _ _ _)
 
 place-returns-2 : (t : ℕ) → place-lts.Need-returns-2 (place-claims t) (place-at t) place.Post
-place-returns-2 t c = (
-  c .try-tokens .ensures .0 ∙ sym (place-some _ _ _ _ _ _ _ _ _ _ (c .before .before .before .if1 .left) (c .before .before .tokens-of .ensures .0)),
-  kept-widen (omega arith) (omega arith) (c .try-tokens .ensures .1),
-)
+place-returns-2 t c =
+    let fit = c .before .before .before .before in
+    let one = fit .before .before in (
+      last-placed _ _ _ _ _ _ _ _ _ _ _ _ (one .if2 .taken) (one .before .tokens-of .ensures .0) (c .before .before .before .if3 .taken) (fit .window-of .ensures)
+          (λ i. one .before .before .before .shared-slice-known2 .given i .fits) (c .last-token .ensures),
+      kept-refl _ _ _,
+    )
+
+place-returns-3 : (t : ℕ) → place-lts.Need-returns-3 (place-claims t) (place-at t) place.Post
+place-returns-3 t c =
+    let w = c .before .before .before in (
+      c .try-tokens .ensures .0 ∙ sym (place-some _ _ _ _ _ _ _ _ _ _ (w .before .if1 .left) (w .tokens-of .ensures .0)),
+      kept-widen (omega arith) (omega arith) (c .try-tokens .ensures .1),
+    )
 
 try-token-returns : (t : ℕ) → try-token-lts.Need-returns (try-token-claims t) (try-token-at t) try-token.Post
 try-token-returns t c =
@@ -106,10 +130,13 @@ pub +place+try-token+try-tokens-spec : {M : Type 1} → statement M
     (λ c κs. search needs)
     (place-returns t)
     (λ c κs. search needs)
+    (λ c κs. search needs)
+    (λ c κs. search needs)
+    (place-returns-2 t)
     (λ c. search needs)
     (λ c. search needs)
     (λ c κs. search needs)
-    (place-returns-2 t))
+    (place-returns-3 t))
     (λ t. try-token-lts.spec (try-token-claims t)
     (try-token-at t)
     try-token.Post

@@ -10,24 +10,24 @@ use borrow.Author.Needs.{needs}
 use Rattle.book.specs.Layout.{offset}
 use Rattle.matching.specs.Met.{triggered}
 use Rattle.matching.specs.Placed.{tokenFor, metAt}
-use Rattle.matching.proofs.Laws.{token-none, token-hit, token-skip, token-miss, token-next, metHere, alt-bare, alt-named, alt-none, alt-step}
+use Rattle.matching.proofs.Laws.{token-none, token-hit, token-skip, token-miss, token-next, metHere, alt-placed, alt-named, alt-none, alt-step}
 use Rattle.matching.proofs.met.Statement.{statement}
 use Rattle.matching.proofs.met.Tie as tie
 
 abbrev Inv-loop : tie.InvT-loop
-Inv-loop e b p first n t found₀ alternatives place a c₀ rest next w token₀ start₀ count₀ found c token start count =
+Inv-loop e b p first n t found₀ alternatives at a c₀ rest next w token₀ start₀ count₀ found c token start count =
     (found ≡ false) × (token + 2 * count < 2 ^ 60) × (start + 4294967296 * count < 2 ^ 64)
-    × (metHere e b p t place ≡ tokenFor e b p (a .ask) (a .asks) rest next 1 c (w .value) count token start)
+    × (metHere e b p t at ≡ tokenFor e b p (a .ask) (a .asks) rest next 1 c (w .value) count token start)
 
 abbrev μ-loop : tie.MeasureT-loop
-μ-loop e b p first n t found₀ alternatives place a c₀ rest next w token₀ start₀ count₀ found c token start count = count
+μ-loop e b p first n t found₀ alternatives at a c₀ rest next w token₀ start₀ count₀ found c token start count = count
 
 abbrev Inv-settled : tie.InvT-settled
-Inv-settled e b p first n t found₀ alternatives₀ place₀ found alternatives place =
-    (found ≡ false) × (alternatives ≤ n) × (place + 4 * alternatives < 2 ^ 50) × (metAt e b p t n (offset b 3 + 4 * first) ≡ metAt e b p t alternatives place)
+Inv-settled e b p first n t found₀ alternatives₀ at₀ found alternatives at =
+    (found ≡ false) × (alternatives ≤ n) × (at + 4 * alternatives < 2 ^ 50) × (metAt e b p t n (offset b 3 + 4 * first) ≡ metAt e b p t alternatives at)
 
 abbrev μ-settled : tie.MeasureT-settled
-μ-settled e b p first n t found₀ alternatives₀ place₀ found alternatives place = alternatives
+μ-settled e b p first n t found₀ alternatives₀ at₀ found alternatives at = alternatives
 
 settled-holds : tie.Need-settled-holds Inv-loop μ-loop Inv-settled μ-settled
 settled-holds c = (refl, omega arith, omega arith, rw (c .number-at .ensures .0))
@@ -63,9 +63,9 @@ settled-again c =
     let alt = c .before .before .before in
     let a = alt .before .before .before .before .before .before .args in
     let s = alt .before .before .settled in
-    let fails : metHere (a .e) (a .b .now) (a .p .now) (a .t) (s .place) ≡ false =
+    let fails : metHere (a .e) (a .b .now) (a .p .now) (a .t) (s .at) ≡ false =
     ⊎-elim
-    (λ g. alt-bare _ _ _ (a .t) _ _ _ (alt .alternative-at .ensures .0) (c .before .before .triggered .ensures) (g .0 .taken) ∙ sym (g .2 .ensures) ∙ g .3 .left)
+    (λ g. alt-placed _ _ _ (a .t) _ _ _ (alt .alternative-at .ensures .0) (c .before .before .triggered .ensures) ∙ sym (g .2 .ensures .0) ∙ g .3 .left)
     (λ g. g .4 .inv .3 ∙ sym (token-none _ _ _ _ _ _ _ _ _ _ _ _ _ (g .5 .left)))
     (c .if1 .came) in (
       ⊎-elim (λ g. g .4 ∙ s .inv .0) (λ g. g .6 ∙ g .4 .inv .0) (c .if1 .came),
@@ -84,7 +84,7 @@ returns-2 c =
     sym
     (alt .before .before .settled .inv .3
     ∙ alt-step _ _ _ _ _ _ _ (alt .before .settled-test .taken)
-    (alt-bare _ _ _ t _ _ _ (alt .alternative-at .ensures .0) (c .before .before .before .before .before .triggered .ensures) (c .before .before .before .if1 .taken) ∙ sym (c .before .all-hold .ensures) ∙ c .if2 .taken))
+    (alt-placed _ _ _ t _ _ _ (alt .alternative-at .ensures .0) (c .before .before .before .before .before .triggered .ensures) ∙ sym (c .before .place .ensures .0) ∙ c .if2 .taken))
 
 returns-3 : tie.Need-returns-3 Inv-loop μ-loop Inv-settled μ-settled
 returns-3 c =
