@@ -1,9 +1,11 @@
 -- The three numbers of each answer: the fault table of document 01, row by row. Assumes nothing.
-use mathlib.Core.Path.{_≡_}
-use Prim.Native.Nat.{ℕ}
-use mathlib.Core.Bool.{cond}
+use mathlib.Core.Path.{_≡_, refl}
+use mathlib.Core.Bool.{Bool, true, false, cond}
+use mathlib.Core.Logic.{_↔_}
+use Prim.Native.Nat.{ℕ, suc}
+use native.Mathlib.Omega.{arith}
 use lib.Dec.{eqb}
-use borrow.Author.Tests.{eq-eqb, ne-eqb}
+use borrow.Author.Tests.{eq-eqb, ne-eqb, eqb-true, eqb-false}
 use Rattle.answers.specs.declared.Numbers.{Numbers}
 use Rattle.answers.specs.declared.Answer.{Answer}
 use Rattle.answers.specs.declared.Answer.the-variants.{NoFault, Accepted, Translated, BookLength, BookHeader, BookEnd, BookRecord, PlanLength, PlanHeader, PlanEnd, ValueUnknown, DurationOutside, NotSuccessor, PastLastTick, RuleNotMet, TooManyAlternatives, TooLong, RoomTooShort, TooManyAtoms, NoSuchTimeline}
@@ -52,3 +54,22 @@ else-fault x y h = rw (ne-eqb _ _ h)
 pub else-next : (x y : Numbers) → x .number ≡ 0 → orElse x y ≡ y
 unfolding orElse
 else-next x y h = rw (eq-eqb _ _ h)
+
+-- a stage and those after it have the number 0 just where neither found a fault
+pub stages : (x y : Numbers) → (orElse x y .number ≡ 0) ↔ ((x .number ≡ 0) × (y .number ≡ 0))
+unfolding orElse
+stages x y = both (eqb (x .number) 0) refl
+  where
+    both : (t : Bool) → eqb (x .number) 0 ≡ t → (cond t y x .number ≡ 0) ↔ ((x .number ≡ 0) × (y .number ≡ 0))
+    both true e = (λ h. (eqb-true _ _ e, h), λ h. h .1)
+    both false e = (λ h. absurd (eqb-false _ _ e h), λ h. h .0)
+
+-- a stage that gives its fault where a test holds found none: the test doesn't hold
+pub stage : (t : Bool) (n x y : ℕ) → cond t (numbers (suc n) x y) noFault .number ≡ 0 → t ≡ false
+stage true n x y h = absurd (omega arith)
+stage false n x y h = refl
+
+-- and one that gives its fault where a test doesn't hold: it holds
+pub held : (t : Bool) (n x y : ℕ) → cond t noFault (numbers (suc n) x y) .number ≡ 0 → t ≡ true
+held true n x y h = refl
+held false n x y h = absurd (omega arith)

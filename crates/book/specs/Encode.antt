@@ -1,5 +1,5 @@
 -- The words that say given rules: tables 2 to 5 with running ranges, and the header. Assumes nothing.
-use Prim.Native.Nat.{ℕ, zero, suc, _+_, _*_}
+use Prim.Native.Nat.{ℕ, _+_, _*_}
 use mathlib.Core.List.{List, [], _∷_, _++_, flatMap}
 use lib.ListN.{length}
 use Rattle.words.specs.Runs.{rows}

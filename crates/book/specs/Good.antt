@@ -1,16 +1,15 @@
 -- What a good book is, said of all indexes, and that `bookFault` is 0 0 0 for just those books. Assumes nothing.
 use mathlib.Core.Path.{_≡_, refl, sym, ap}
-use mathlib.Core.Bool.{Bool, true, false, _||_, _&&_, not, cond, true≢false, false≢true}
+use mathlib.Core.Bool.{Bool, true, false, _||_, _&&_, not, true≢false, false≢true}
 use mathlib.Core.Logic.{_↔_}
 use mathlib.Core.List.{List, [], _∷_}
 use Prim.Native.Nat.{ℕ, zero, suc, _≤_, _<_}
-use native.Mathlib.Omega.{arith}
-use lib.Dec.{ltb, leb, eqb}
+use lib.Dec.{leb, eqb}
 use lib.ListN.{length, getD}
 use borrow.Author.Tests.{ltb-false, le-ltb, leb-true, leb-false, le-leb, lt-leb, eqb-true, eqb-false, eq-eqb, ne-eqb}
 use Rattle.answers.specs.declared.Numbers.{Numbers}
-use Rattle.answers.specs.Numbers.{numbers, noFault, orElse}
-use Rattle.words.specs.Least.{least, Clear, least-law, least-end}
+use Rattle.answers.specs.Numbers.{noFault, orElse, stages, stage, held}
+use Rattle.words.specs.Least.{none-below}
 use Rattle.book.specs.Layout.{count, ending, headerWrong}
 use Rattle.book.specs.Wrong.{someWrong, recordTests, recordWrong, leaves, tableWrong}
 use Rattle.book.specs.Fault.{lengthFault, headerFault, endFault, recordFault, bookFault}
@@ -70,13 +69,6 @@ words-right (w ∷ (v ∷ ws)) = (
   λ h. or-right w _ .1 (h 0, words-right (v ∷ ws) .1 (λ j. h (suc j))),
 )
 
--- the lowest that is wrong is not below n: none below n is
-none-below : (n : ℕ) (p : ℕ → Bool) → (ltb (least n p) n ≡ false) ↔ Clear p n
-none-below n p = (
-  λ h k l. least-law n p .clear k (omega (arith, ltb-false (least n p) n h)),
-  λ h. le-ltb (least n p) n (omega (arith, least-end n p n h (omega arith) (omega arith))),
-)
-
 -- every record of table t is right, and the next table is used up
 table-right : (e : ℕ) (b : List ℕ) (t : ℕ)
     → (tableWrong e b t ≡ false)
@@ -84,41 +76,20 @@ table-right : (e : ℕ) (b : List ℕ) (t : ℕ)
 unfolding tableWrong recordWrong
 table-right e b t = simp (or-right, none-below, words-right) (λ h. h, λ h. h)
 
--- ---- laws of the stages of `bookFault`
-
--- an answer with the number 0 is not this stage's fault
-stage : (t : Bool) (n x y : ℕ) → cond t (numbers (suc n) x y) noFault .number ≡ 0 → t ≡ false
-stage true n x y h = absurd (omega arith)
-stage false n x y h = refl
-
--- the same of the stage that asks for an end
-ended : (t : Bool) → cond t noFault (numbers 3 0 0) .number ≡ 0 → t ≡ true
-ended true h = refl
-ended false h = absurd (omega arith)
-
--- and of a stage with those after it: neither found a fault
-both : (t : Bool) (x y : Numbers) → eqb (x .number) 0 ≡ t → cond t y x .number ≡ 0 → (x .number ≡ 0) × (y .number ≡ 0)
-both true x y e h = (eqb-true _ _ e, h)
-both false x y e h = absurd (eqb-false _ _ e h)
-
-stages : (x y : Numbers) → orElse x y .number ≡ 0 → (x .number ≡ 0) × (y .number ≡ 0)
-unfolding orElse
-stages x y h = both (eqb (x .number) 0) x y refl h
-
 -- a book with the answer number 0 is good
 good-number : (e : ℕ) (b : List ℕ) → bookFault e b .number ≡ 0 → Good e b
 unfolding bookFault lengthFault headerFault endFault recordFault
 good-number e b h =
-    let s1 = stages _ _ h in
-    let s2 = stages _ _ (s1 .1) in
-    let s3 = stages _ _ (s2 .1) in
+    let s1 = stages _ _ .0 h in
+    let s2 = stages _ _ .0 (s1 .1) in
+    let s3 = stages _ _ .0 (s2 .1) in
     let size = or-right _ _ .0 (stage _ 0 0 0 (s1 .0)) in
     let tables = none-below 6 (tableWrong e b) .0 (stage _ 3 _ _ (s3 .1)) in
     record {
       long = ltb-false (length b) 14 (size .0);
       short = ltb-false 16384 (length b) (size .1);
       header = none-below 14 (headerWrong e b) .0 (stage _ 1 _ _ (s2 .0));
-      whole = eqb-true _ _ (ended _ (s3 .0));
+      whole = eqb-true _ _ (held _ 2 0 0 (s3 .0));
       words = λ t l. table-right e b t .0 (tables t l) .0;
       used = λ t l. table-right e b t .0 (tables t l) .1;
     }

@@ -1,7 +1,7 @@
 -- The decoded book: variables with their values, rules with their trigger and alternatives, alternatives with their names and what they
 -- ask. C is what an alternative asks: an atom in a book, a constraint in a sheet. Assumes nothing.
 use Prim.Native.Nat.{ℕ, _+_, _*_}
-use mathlib.Core.List.{List, [], _∷_}
+use mathlib.Core.List.{List}
 use Rattle.words.specs.Words.{word}
 use Rattle.words.specs.Runs.{run}
 use Rattle.book.specs.Layout.{count, offset}

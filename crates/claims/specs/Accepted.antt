@@ -13,7 +13,7 @@ use lib.Dec.{ltb, eqb}
 use lib.ListN.{length}
 use borrow.Author.Tests.{ltb-false, le-ltb, eqb-true, eqb-false, eq-eqb, ne-eqb}
 use Rattle.answers.specs.declared.Numbers.{Numbers}
-use Rattle.answers.specs.Numbers.{numbers, orElse, else-next}
+use Rattle.answers.specs.Numbers.{numbers, orElse, else-next, stages}
 use Rattle.words.specs.Lists.{All}
 use Rattle.words.specs.Least.{first}
 use Rattle.clock.specs.Clock.{noLimit}
@@ -29,7 +29,7 @@ use Rattle.plan.specs.Good.{plan-good, plan-good-back, no-number}
 use Rattle.matching.specs.Met.{Choice, nobody, atomHolds, constraintHolds}
 use Rattle.verdict.specs.Judged.{untriggered, counted, triggerLine, isTrigger, examined, ruleUnmet, rulesFault, judged, judgedSheet}
 use Rattle.claims.specs.Papers.{Plan, Satisfies}
-use Rattle.claims.specs.Laws.{all-to, all-apply, none-first, stages}
+use Rattle.claims.specs.Laws.{all-to, all-apply, none-first}
 use Rattle.claims.specs.Wrongs.{Tables}
 use Rattle.claims.specs.FaultsOfTables.{book-none}
 use Rattle.claims.specs.Timelines.{plan-iff}

@@ -10,7 +10,7 @@ use native.Mathlib.Omega.{arith}
 use lib.Dec.{ltb}
 use lib.ListN.{length, getD}
 use Rattle.answers.specs.declared.Numbers.{Numbers}
-use Rattle.answers.specs.Numbers.{numbers, orElse}
+use Rattle.answers.specs.Numbers.{numbers, orElse, stages}
 use Rattle.words.specs.Least.{first, first-least}
 use Rattle.book.specs.Rules.{Rule, rulesOf, variablesOf}
 use Rattle.book.specs.Encode.{atoms, constraints}
@@ -24,7 +24,6 @@ use Rattle.matching.specs.Met.{Choice, atomHolds, constraintHolds}
 use Rattle.matching.specs.Exists as exists
 use Rattle.verdict.specs.Judged.{noRule, firstUnmet, ruleUnmet, examined, rulesFault, judged, judgedSheet}
 use Rattle.claims.specs.Papers.{Plan, Met, Satisfies}
-use Rattle.claims.specs.Laws.{stages}
 use Rattle.claims.specs.Stages.{stagesOf, at-last, ordered, rules-own, in-order}
 use Rattle.claims.specs.Wrongs.{First, Tables}
 use Rattle.claims.specs.WrongTests.{unless, first-is}

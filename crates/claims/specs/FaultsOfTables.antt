@@ -9,7 +9,7 @@ use lib.Dec.{ltb, eqb}
 use lib.ListN.{length}
 use borrow.Author.Tests.{ltb-true, ltb-false, lt-ltb, le-ltb, eqb-true, eqb-false}
 use Rattle.answers.specs.declared.Numbers.{Numbers}
-use Rattle.answers.specs.Numbers.{numbers, noFault}
+use Rattle.answers.specs.Numbers.{numbers, noFault, stages}
 use Rattle.book.specs.Layout.{count, ending, headerWrong}
 use Rattle.book.specs.Wrong.{lowest, tableWrong}
 use Rattle.book.specs.Fault as book
@@ -17,7 +17,6 @@ use Rattle.book.specs.Good.{or-right, good, good-back, no-number}
 use Rattle.book.specs.Sound.{Sound, sound, sound-back}
 use Rattle.plan.specs.Fault as plan
 use Rattle.plan.specs.Good.{HeadGood, head-good, head-back}
-use Rattle.claims.specs.Laws.{stages}
 use Rattle.claims.specs.Wrongs.{First, None, BookSized, HeaderWrong, TableGood, TableBad, PlanSized, HeadWrong}
 use Rattle.claims.specs.WrongTests.{or-so, none-is, first-is, header-iff, table-good, table-bad, head-iff}
 

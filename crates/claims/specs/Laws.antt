@@ -7,9 +7,9 @@ use mathlib.Core.List.{List, [], _∷_, _++_, map, flatMap}
 use Prim.Native.Nat.{ℕ, zero, suc, _+_, _*_, _≤_, _<_}
 use native.Mathlib.Nat.{zero-mul, suc-mul, add-mul, mul-comm}
 use native.Mathlib.Omega.{arith}
-use lib.Dec.{ltb, eqb}
+use lib.Dec.{eqb}
 use lib.ListN.{length}
-use borrow.Author.Tests.{ltb-false, eqb-true, eqb-false}
+use borrow.Author.Tests.{eqb-true}
 use Rattle.answers.specs.declared.Numbers.{Numbers}
 use Rattle.answers.specs.Numbers.{orElse}
 use Rattle.words.specs.Lists.{any, All}
@@ -119,20 +119,7 @@ least-agree n p q h =
       here = λ m. sym (h _ m (l .clear)) ∙ l .here m;
     })
 
--- the least that passes is not below n: none below n passes
-pub none-below : (n : ℕ) (p : ℕ → Bool) → ltb (least n p) n ≡ false → Clear p n
-none-below n p h k l = least-law n p .clear k (omega (arith, ltb-false (least n p) n h))
-
 -- ---- answers in their order
-
--- the answer has the number 0 just where a stage has no fault, and those after it have none
-both : (t : Bool) (x y : Numbers) → eqb (x .number) 0 ≡ t → (cond t y x .number ≡ 0) ↔ ((x .number ≡ 0) × (y .number ≡ 0))
-both true x y e = (λ h. (eqb-true _ _ e, h), λ h. h .1)
-both false x y e = (λ h. absurd (eqb-false _ _ e h), λ h. h .0)
-
-pub stages : (x y : Numbers) → (orElse x y .number ≡ 0) ↔ ((x .number ≡ 0) × (y .number ≡ 0))
-unfolding orElse
-stages x y = both (eqb (x .number) 0) x y refl
 
 -- two answers that agree where no fault comes before them
 pub else-agree : (x y z : Numbers) → (x .number ≡ 0 → y ≡ z) → orElse x y ≡ orElse x z

@@ -4,8 +4,8 @@ use mathlib.Core.Path.{_≡_}
 use mathlib.Core.Logic.{_⊎_}
 use mathlib.Core.Bool.{true}
 use mathlib.Core.List.{List, [], _∷_}
-use Prim.Native.Nat.{ℕ, suc, _+_, _-_, _≤_, _<_}
-use lib.IntN.{ℤ, pos, subℕ}
+use Prim.Native.Nat.{ℕ, suc, _-_, _≤_, _<_}
+use lib.IntN.{pos, subℕ}
 use lib.Signed.{leZ}
 use lib.ListN.{length, getD}
 use Rattle.words.specs.Words.{inSet}

@@ -8,10 +8,10 @@ use native.Mathlib.Nat.{add-zero}
 use native.Mathlib.Omega.{arith}
 use lib.Dec.{ltb, leb, eqb}
 use borrow.Author.Tests.{ltb-true, ltb-false, leb-false, eqb-false}
-use Rattle.answers.specs.Numbers.{noFault}
+use Rattle.answers.specs.Numbers.{noFault, stages}
 use Rattle.words.specs.Words.{word}
 use Rattle.words.specs.Lists.{All}
-use Rattle.words.specs.Least.{Clear, least, least-law}
+use Rattle.words.specs.Least.{Clear, least, least-law, none-below}
 use Rattle.book.specs.Layout.{count, field, valuesOf}
 use Rattle.book.specs.Good.{or-right, not-so}
 use Rattle.book.specs.Sound.{Sound}
@@ -19,7 +19,7 @@ use Rattle.book.specs.Inside.{in-range}
 use Rattle.plan.specs.Lines.{lineCount, linePlace, tokensFrom, lineOf}
 use Rattle.clock.specs.Clock.{lastTick}
 use Rattle.plan.specs.Fault.{lengthFault, headWrong, headFault, endFault, valueOf, durationOf, startOf, valuePlace, durationOutside, notSuccessor, tokenFault, tokenWrong, firstToken, lineWrong, firstLine, lineFault, tokensFault, planFault}
-use Rattle.claims.specs.Laws.{least-agree, none-below, stages}
+use Rattle.claims.specs.Laws.{least-agree}
 use Rattle.claims.specs.Expansion.{Proper}
 
 -- two books have the same variables, with the same values: the words of each value, of those that its variable has, are the same
@@ -133,8 +133,8 @@ module _ (b p : List ℕ) where
   tokens-right h v l =
       let s = stages (lengthFault b p) _ .0 h .1 in
       let f = stages (endFault b p) _ .0 (stages (headFault b p) _ .0 s .1) .1 in
-      let line : lineWrong b p v ≡ false = none-below (count b 0) (lineWrong b p) (by _ refl f) v l in
-      none-below (lineCount p v) (tokenWrong b p v) line
+      let line : lineWrong b p v ≡ false = none-below (count b 0) (lineWrong b p) .0 (by _ refl f) v l in
+      none-below (lineCount p v) (tokenWrong b p v) .0 line
     where
       by : (t : Bool) → ltb (firstLine b p) (count b 0) ≡ t → cond t (lineFault b p (firstLine b p)) noFault .number ≡ 0 → ltb (firstLine b p) (count b 0) ≡ false
       by true e f = absurd (line-fault (firstLine b p) (least-law (count b 0) (lineWrong b p) .here (ltb-true _ _ e)) f)

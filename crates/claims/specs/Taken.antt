@@ -11,14 +11,14 @@ use lib.Dec.{ltb}
 use lib.ListN.{length}
 use borrow.Author.Tests.{ltb-false, lt-ltb, le-ltb}
 use Rattle.answers.specs.declared.Numbers.{Numbers}
-use Rattle.answers.specs.Numbers.{numbers, noFault, orElse, else-fault, else-next}
+use Rattle.answers.specs.Numbers.{numbers, noFault, orElse, else-fault, else-next, stages}
 use Rattle.words.specs.Lists.{All}
 use Rattle.words.specs.Least.{first}
 use Rattle.book.specs.Rules.{Atom, Alternative, Rule}
 use Rattle.book.specs.Encode.{altsOf, namesOf, asksOf}
 use Rattle.book.specs.Fault.{bookFault}
 use Rattle.translator.specs.Translation.{rulesFor, translated, tooMany, tooWide, ruleFault, sizeFault, roomFault, translation}
-use Rattle.claims.specs.Laws.{none-any, none-first, stages}
+use Rattle.claims.specs.Laws.{none-any, none-first}
 
 -- the limits of the tables 3, 4, 5 and of the total (14)
 pub record Sizes (s : List ℕ) : Type 0 where

@@ -11,9 +11,9 @@ use lib.Dec.{ltb, eqb}
 use lib.ListN.{length}
 use borrow.Author.Tests.{ltb-true, ltb-false, leb-false, eqb-true, eqb-false, not-false, le-ltb, lt-leb, eq-eqb, ne-eqb}
 use Rattle.answers.specs.declared.Numbers.{Numbers}
-use Rattle.answers.specs.Numbers.{numbers, noFault, orElse}
+use Rattle.answers.specs.Numbers.{noFault, orElse, stages, stage, held}
 use Rattle.words.specs.Words.{word, inSet}
-use Rattle.words.specs.Least.{least, Clear, least-law, least-end}
+use Rattle.words.specs.Least.{Clear, least-law, none-below}
 use Rattle.clock.specs.Clock.{lastTick, noLimit}
 use Rattle.book.specs.Layout.{count, valuesOf}
 use Rattle.book.specs.Good.{or-right}
@@ -167,41 +167,15 @@ module _ (b p : List ℕ) (v j : ℕ) where
         le-ltb lastTick _ (g .soon),
       )
 
--- ---- laws of the stages of `planFault`
-
--- the least is not below n: nothing holds below n
-clear-all : (n : ℕ) (t : ℕ → Bool) → ltb (least n t) n ≡ false → Clear t n
-clear-all n t h k l = least-law n t .clear k (omega (arith, ltb-false (least n t) n h))
-
-all-clear : (n : ℕ) (t : ℕ → Bool) → Clear t n → ltb (least n t) n ≡ false
-all-clear n t h = le-ltb (least n t) n (omega (arith, least-end n t n h (omega arith) (omega arith)))
-
--- an answer with the number 0 is no stage's fault
-stage : (t : Bool) (n x y : ℕ) → cond t (numbers (suc n) x y) noFault .number ≡ 0 → t ≡ false
-stage true n x y h = absurd (omega arith)
-stage false n x y h = refl
-
-ended : (t : Bool) → cond t noFault (numbers 7 0 0) .number ≡ 0 → t ≡ true
-ended true h = refl
-ended false h = absurd (omega arith)
-
-stages : (x y : Numbers) → orElse x y .number ≡ 0 → (x .number ≡ 0) × (y .number ≡ 0)
-unfolding orElse
-stages x y h = both (eqb (x .number) 0) refl h
-  where
-    both : (t : Bool) → eqb (x .number) 0 ≡ t → cond t y x .number ≡ 0 → (x .number ≡ 0) × (y .number ≡ 0)
-    both true e h = (eqb-true _ _ e, h)
-    both false e h = absurd (eqb-false _ _ e h)
-
 module _ (b p : List ℕ) where
   -- no token of a right line is faulty, and back
   line-good : (v : ℕ) → lineWrong b p v ≡ false → (j : ℕ) → j < lineCount p v → TokenGood b p v j
   unfolding lineWrong firstToken tokenWrong
-  line-good v h j l = token-good b p v j (eqb-true _ _ (not-false _ (clear-all _ _ h j l)))
+  line-good v h j l = token-good b p v j (eqb-true _ _ (not-false _ (none-below _ _ .0 h j l)))
 
   line-back : (v : ℕ) → ((j : ℕ) → j < lineCount p v → TokenGood b p v j) → lineWrong b p v ≡ false
   unfolding lineWrong firstToken tokenWrong
-  line-back v g = all-clear (lineCount p v) (tokenWrong b p v) (λ j l. rw (token-back b p v j (g j l)))
+  line-back v g = none-below (lineCount p v) (tokenWrong b p v) .1 (λ j l. rw (token-back b p v j (g j l)))
 
   -- the tokens have no fault number: no line is wrong
   tokens-good : tokensFault b p .number ≡ 0 → Clear (lineWrong b p) (count b 0)
@@ -210,21 +184,21 @@ module _ (b p : List ℕ) where
     where
       split : (t : Bool) → ltb (firstLine b p) (count b 0) ≡ t → cond t (lineFault b p (firstLine b p)) noFault .number ≡ 0 → Clear (lineWrong b p) (count b 0)
       split true e z = absurd (bad-token b p (firstLine b p) (least-law (count b 0) (lineWrong b p) .here (ltb-true _ _ e)) z)
-      split false e z = clear-all _ _ e
+      split false e z = none-below _ _ .0 e
 
   -- a plan with the answer number 0 is good
   good-number : planFault b p .number ≡ 0 → PlanGood b p
   unfolding planFault lengthFault headFault endFault
   good-number h =
-      let s1 = stages _ _ h in
-      let s2 = stages _ _ (s1 .1) in
-      let s3 = stages _ _ (s2 .1) in
+      let s1 = stages _ _ .0 h in
+      let s2 = stages _ _ .0 (s1 .1) in
+      let s3 = stages _ _ .0 (s2 .1) in
       let size = or-right _ _ .0 (stage _ 4 0 0 (s1 .0)) in
       record {
         long = ltb-false _ _ (size .0);
         short = ltb-false _ _ (size .1);
-        head = head-good b p (clear-all _ _ (stage _ 5 _ _ (s2 .0)));
-        whole = eqb-true _ _ (ended _ (s3 .0));
+        head = head-good b p (none-below _ _ .0 (stage _ 5 _ _ (s2 .0)));
+        whole = eqb-true _ _ (held _ 6 0 0 (s3 .0));
         tokens = λ v l. line-good v (tokens-good (s3 .1) v l);
       }
 
@@ -237,9 +211,9 @@ module _ (b p : List ℕ) where
       simp (
         le-ltb (length p) (3 + 2 * count b 0) (g .long),
         le-ltb 16384 (length p) (g .short),
-        all-clear (3 + 2 * count b 0) (headWrong b p) (head-back b p (g .head)),
+        none-below (3 + 2 * count b 0) (headWrong b p) .1 (head-back b p (g .head)),
         eq-eqb (3 + 2 * count b 0 + 2 * sumBefore p (count b 0)) (length p) (g .whole),
-        all-clear (count b 0) (lineWrong b p) (λ v l. line-back v (g .tokens v l)),
+        none-below (count b 0) (lineWrong b p) .1 (λ v l. line-back v (g .tokens v l)),
       )
 
   -- with the number 0 the other two numbers are 0 too

@@ -1,13 +1,12 @@
 -- Opening a reader over one timeline: what is wrong, and where the reader then stands. Assumes nothing.
-use mathlib.Core.Path.{_≡_, refl, _∙_}
-use mathlib.Core.Bool.{Bool, true, false, cond}
+use mathlib.Core.Path.{_≡_, _∙_}
+use mathlib.Core.Bool.{cond}
 use mathlib.Core.List.{List}
 use Prim.Native.Nat.{ℕ, _≤_, _<_}
-use native.Mathlib.Omega.{arith}
 use lib.Dec.{ltb, eqb}
-use borrow.Author.Tests.{ltb-true, eqb-true, eqb-false, lt-ltb, le-ltb, eq-eqb, ne-eqb}
+use borrow.Author.Tests.{ltb-true, lt-ltb, le-ltb, eq-eqb, ne-eqb}
 use Rattle.answers.specs.declared.Numbers.{Numbers}
-use Rattle.answers.specs.Numbers.{numbers, noFault, orElse, else-fault, else-next}
+use Rattle.answers.specs.Numbers.{numbers, noFault, orElse, else-fault, else-next, stages, held}
 use Rattle.book.specs.Layout.{count}
 use Rattle.book.specs.Fault.{bookFault}
 use Rattle.plan.specs.declared.Position.{Position}
@@ -26,19 +25,6 @@ openFault b p line = orElse (bookFault 1 b) (orElse (planFault b p) (lineFault b
 unfoldable pub openAt : List ℕ → List ℕ → ℕ → Position
 openAt b p line = cond (eqb (openFault b p line .number) 0) (position line 0 0) (position line 4294967295 0)
 
--- an answer with the number 0 is no stage's fault
-stages : (x y : Numbers) → orElse x y .number ≡ 0 → (x .number ≡ 0) × (y .number ≡ 0)
-unfolding orElse
-stages x y h = both (eqb (x .number) 0) refl h
-  where
-    both : (t : Bool) → eqb (x .number) 0 ≡ t → cond t y x .number ≡ 0 → (x .number ≡ 0) × (y .number ≡ 0)
-    both true e h = (eqb-true _ _ e, h)
-    both false e h = absurd (eqb-false _ _ e h)
-
-below : (t : Bool) → cond t noFault (numbers 17 0 0) .number ≡ 0 → t ≡ true
-below true h = refl
-below false h = absurd (omega arith)
-
 module _ (b p : List ℕ) (line : ℕ) where
   -- where the reader stands, by the answer's number
   pub opened-at : openFault b p line .number ≡ 0 → openAt b p line ≡ position line 0 0
@@ -54,9 +40,9 @@ module _ (b p : List ℕ) (line : ℕ) where
       → (bookFault 1 b .number ≡ 0) × (planFault b p .number ≡ 0) × (line < count b 0)
   unfolding openFault lineFault
   opened-good h =
-      let s1 = stages _ _ h in
-      let s2 = stages _ _ (s1 .1) in
-      (s1 .0, s2 .0, ltb-true _ _ (below _ (s2 .1)))
+      let s1 = stages _ _ .0 h in
+      let s2 = stages _ _ .0 (s1 .1) in
+      (s1 .0, s2 .0, ltb-true _ _ (held _ 16 0 0 (s2 .1)))
 
   -- and back: then the answer is 0 0 0
   pub good-opened : bookFault 1 b .number ≡ 0 → planFault b p .number ≡ 0 → line < count b 0 → openFault b p line ≡ noFault

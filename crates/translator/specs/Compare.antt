@@ -1,7 +1,7 @@
 -- The words of a relation's atoms, from a table of comparisons: a comparison is 32 and five bits, left kind, left token, right kind, right
 -- token, strict; 0 is none. Assumes nothing.
 use mathlib.Core.Path.{_≡_, refl}
-use Prim.Native.Nat.{ℕ, zero, suc, _+_, _*_, _/_, _%_, _<_}
+use Prim.Native.Nat.{ℕ, zero, suc, _+_, _/_, _%_, _<_}
 use mathlib.Core.List.{List, [], _∷_, _++_, flatMap}
 use lib.ListN.{getD}
 use Rattle.clock.specs.Clock.{noLimit}

@@ -2,13 +2,15 @@
 -- before. Assumes nothing.
 use mathlib.Core.Path.{_≡_, refl, sym, ap, _∙_, subst}
 use mathlib.Core.Bool.{Bool, true, false, _||_, cond}
-use mathlib.Core.Logic.{⊎-elim}
+use mathlib.Core.Logic.{_↔_, ⊎-elim}
 use mathlib.Core.List.{List, [], _∷_}
 use Prim.Native.Nat.{ℕ, zero, suc, _+_, _≤_, _<_}
 use native.Mathlib.Nat.{eq-or-lt-of-le}
 use borrow.Author.Count.{below-more}
 use native.Mathlib.Omega.{arith}
+use lib.Dec.{ltb}
 use lib.ListN.{length, getD}
+use borrow.Author.Tests.{ltb-false, le-ltb}
 use Rattle.words.specs.Lists.{any}
 
 -- the least index from i on, through n indexes, at which p holds, or i + n where there is none
@@ -111,6 +113,13 @@ least-ge n p i h l =
     let q = least-law n p in
     let z : least n p < i → ⊥ = λ m. clash (h _ m) (q .here (omega arith)) in
     omega arith
+
+-- the least is not below n just where nothing below n holds
+pub none-below : (n : ℕ) (p : ℕ → Bool) → (ltb (least n p) n ≡ false) ↔ Clear p n
+none-below n p = (
+  λ h k l. least-law n p .clear k (omega (arith, ltb-false (least n p) n h)),
+  λ h. le-ltb (least n p) n (omega (arith, least-end n p n h (omega arith) (omega arith))),
+)
 
 -- the same as a loop's record has them, for `search (needs, scan)`: m is the local that holds n, and f the flag that the test gave
 pub scan-more : {p : ℕ → Bool} {i : ℕ} {f : Bool} → Clear p i → f ≡ p i → f ≡ false → Clear p (i + 1)

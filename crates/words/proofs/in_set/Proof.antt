@@ -1,6 +1,6 @@
 -- `words::in_set` meets its contract: a word has no bit from 32 on. Assumes nothing.
-use mathlib.Core.Path.{_≡_, refl, sym, ap, _∙_}
-use Prim.Native.Nat.{ℕ, _/_, _%_, _^_, _≤_, _<_}
+use mathlib.Core.Path.{_≡_}
+use Prim.Native.Nat.{ℕ, _/_, _^_, _≤_, _<_}
 use native.Mathlib.Nat.{pow-le-pow-right, div-eq-of-lt}
 use native.Mathlib.Omega.{arith}
 use mathlib.Core.Bool.{false}
