@@ -3,6 +3,7 @@
 //! Each has the input files, `line` with the line of numbers that judging them
 //! gives, and `what.txt` with what it shows.
 
+use second::generate::load;
 use second::layout::Answer;
 use second::specimens::{with, E, E_SHEET, P1, P2};
 use second::words::to_bytes;
@@ -35,6 +36,18 @@ fn sheet(folder: &'static str, plan: &[u32], expected: Answer, what: &'static st
     Example { folder, sheet: true, book, plan, expected, what }
 }
 
+fn deepest() -> Example {
+    let (book, plan) = load::deepest();
+    Example {
+        folder: "deepest",
+        sheet: false,
+        book,
+        plan,
+        expected: [12, 0, 511],
+        what: "Four names whose only tokens stand last on full lines: the search is as deep as it gets.",
+    }
+}
+
 /// The words with one more at the end, the total being right.
 fn one_more(words: &[u32]) -> Vec<u32> {
     let mut out = words.to_vec();
@@ -45,6 +58,7 @@ fn one_more(words: &[u32]) -> Vec<u32> {
 
 fn all() -> Vec<Example> {
     vec![
+        deepest(),
         e(
             "accepted",
             P2.to_vec(),

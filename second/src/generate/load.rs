@@ -90,6 +90,16 @@ pub fn names(names: u32, tokens: usize, chained: bool) -> (Vec<u32>, Vec<u32>) {
     (draft.words(), plan_words(&lines))
 }
 
+/// Four names whose only tokens stand last on full lines, and an atom that
+/// never holds: the proved search is then as deep as it gets.
+pub fn deepest() -> (Vec<u32>, Vec<u32>) {
+    let mut draft = Draft::new(Kind::Book, vec![vec![[1, N, 3]; 2]; 5]);
+    let names = [[1, 1], [2, 1], [3, 1], [4, 1]];
+    draft.rule([0, 1], vec![alternative(&names, &[&[0, 1, 1, 4, LAST, N]])]);
+    let line: Vec<[u32; 2]> = (0..512).map(|i| [u32::from(i == 511), 1]).collect();
+    (draft.words(), plan_words(&vec![line; 5]))
+}
+
 /// A sheet whose translation has 16,384 words and 888 alternatives.
 pub fn largest_sheet() -> Vec<u32> {
     let mut draft = widest(Kind::Sheet);
