@@ -1,6 +1,6 @@
 -- `matching::both` meets its contract: the greater of the lower ends and the smaller of the upper ones. Assumes nothing.
 use borrow.Author.Needs.{needs}
-use Rattle.matching.proofs.Windows.{range-both}
+use Rattle.matching.proofs.Ranges.{range-both}
 use Rattle.matching.proofs.both.Statement.{statement}
 use Rattle.matching.proofs.both.Tie as tie
 

@@ -1,5 +1,5 @@
 -- `matching::greater` meets its contract: what the greater of two numbers is to any third. Assumes nothing.
-use Rattle.matching.proofs.Windows.{max-second, max-first}
+use Rattle.matching.proofs.Ranges.{max-second, max-first}
 use Rattle.matching.proofs.greater.Statement.{statement}
 use Rattle.matching.proofs.greater.Tie as tie
 

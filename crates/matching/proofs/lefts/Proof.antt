@@ -1,6 +1,6 @@
 -- `matching::lefts` meets its contract: no left, those without an earliest, or those between two. Assumes nothing.
 use borrow.Author.Needs.{needs}
-use Rattle.matching.proofs.Windows.{lefts-none, lefts-unlimited, lefts-early, lefts-limited}
+use Rattle.matching.proofs.Ranges.{lefts-none, lefts-unlimited, lefts-early, lefts-limited}
 use Rattle.matching.proofs.lefts.Statement.{statement}
 use Rattle.matching.proofs.lefts.Tie as tie
 

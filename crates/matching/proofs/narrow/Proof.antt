@@ -1,7 +1,7 @@
 -- `matching::narrow` meets its contract: the starts for kind 0, and the ends for any other. Assumes nothing.
 use mathlib.Core.Path.{refl}
 use borrow.Author.Needs.{needs}
-use Rattle.matching.proofs.Windows.{starts-narrowed, ends-narrowed}
+use Rattle.matching.proofs.Ranges.{starts-narrowed, ends-narrowed}
 use Rattle.matching.proofs.narrow.Statement.{statement}
 use Rattle.matching.proofs.narrow.Tie as tie
 

@@ -1,6 +1,6 @@
 -- `matching::rights` meets its contract: those without a latest, or those between two. Assumes nothing.
 use borrow.Author.Needs.{needs}
-use Rattle.matching.proofs.Windows.{rights-unlimited, rights-limited}
+use Rattle.matching.proofs.Ranges.{rights-unlimited, rights-limited}
 use Rattle.matching.proofs.rights.Statement.{statement}
 use Rattle.matching.proofs.rights.Tie as tie
 

@@ -1,5 +1,5 @@
 -- `matching::smaller` meets its contract: what the smaller of two numbers is to any third. Assumes nothing.
-use Rattle.matching.proofs.Windows.{min-first, min-second}
+use Rattle.matching.proofs.Ranges.{min-first, min-second}
 use Rattle.matching.proofs.smaller.Statement.{statement}
 use Rattle.matching.proofs.smaller.Tie as tie
 
