@@ -79,7 +79,7 @@ equal p q = rw add-zero (sym (split (leb p q) (leb q p) refl refl))
     split false b h k = omega (arith, leb-false, ne-eqb)
 
 -- of two tokens that have a length, the atoms of just the one relation hold in which they stand
-atoms-hold : (c : Choice) → ProperChoice c → (l r : ℕ)
+pub atoms-hold : (c : Choice) → ProperChoice c → (l r : ℕ)
     → map (all (atomHolds c)) (relations l r)
     ≡ map (λ (k : ℕ). eqb k (relationOf (tokenTime c 0 l) (tokenTime c 1 l) (tokenTime c 0 r) (tokenTime c 1 r))) thirteen
 unfolding all atomHolds timeOf
