@@ -1,5 +1,19 @@
-// Runs what document 01 lists and doesn't star, a line each, in its order; the expected lines are in this crate's stdout.
+// Runs the specimens of document 01 that speak of files, a line each; the expected lines are in this crate's stdout. Those that 01 stars,
+// the first ten, are proved in claims too.
 fn main() {
+    // P1, P2, the empty plan
+    files::judge(b"book.bin", b"p1.bin");
+    files::judge(b"book.bin", b"p2.bin");
+    files::judge(b"book.bin", b"empty.bin");
+    // P2 with the job of 20 at 4 and at 61; with the second decoder token's value 0, 2, and its duration 999,999,991
+    files::judge(b"book.bin", b"job4.bin");
+    files::judge(b"book.bin", b"job61.bin");
+    files::judge(b"book.bin", b"value0.bin");
+    files::judge(b"book.bin", b"value2.bin");
+    files::judge(b"book.bin", b"past.bin");
+    // a rule without trigger on the empty plan: no names, and one name
+    files::judge(b"bare.bin", b"empty.bin");
+    files::judge(b"named.bin", b"empty.bin");
     // P2 with the job of 20 at 5 and at 60: both pass 9; the longer one leaves the decoder's stretch
     files::judge(b"book.bin", b"job5.bin");
     files::judge(b"book.bin", b"job60.bin");
