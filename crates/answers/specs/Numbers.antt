@@ -8,7 +8,7 @@ use lib.Dec.{eqb}
 use borrow.Author.Tests.{eq-eqb, ne-eqb, eqb-true, eqb-false}
 use Rattle.answers.specs.declared.Numbers.{Numbers}
 use Rattle.answers.specs.declared.Answer.{Answer}
-use Rattle.answers.specs.declared.Answer.the-variants.{NoFault, Accepted, Translated, BookLength, BookHeader, BookEnd, BookRecord, PlanLength, PlanHeader, PlanEnd, ValueUnknown, DurationOutside, NotSuccessor, PastLastTick, RuleNotMet, TooManyAlternatives, TooLong, RoomTooShort, TooManyAtoms, NoSuchTimeline}
+use Rattle.answers.specs.declared.Answer.the-variants.{Done, BookLength, BookHeader, BookEnd, BookRecord, PlanLength, PlanHeader, PlanEnd, ValueUnknown, DurationOutside, NotSuccessor, PastLastTick, RuleNotMet, TooManyAlternatives, TooLong, RoomTooShort, TooManyAtoms, NoSuchTimeline}
 
 -- "Each answer is three numbers: number, a, b"
 abbrev pub numbers : ℕ → ℕ → ℕ → Numbers
@@ -16,9 +16,7 @@ numbers n a b = record { number = n; a = a; b = b }
 
 -- "those not named are 0"
 abbrev pub numbersOf : Answer → Numbers
-numbersOf NoFault = numbers 0 0 0
-numbersOf (Accepted triggers) = numbers 0 triggers 0
-numbersOf (Translated words alternatives) = numbers 0 words alternatives
+numbersOf (Done a b) = numbers 0 a b
 numbersOf BookLength = numbers 1 0 0
 numbersOf (BookHeader word) = numbers 2 word 0
 numbersOf BookEnd = numbers 3 0 0

@@ -511,5 +511,5 @@ pub fn check(b: &[u32], e: usize) -> Answer
             record: i as u32,
         };
     }
-    Answer::NoFault
+    Answer::Done { a: 0, b: 0 }
 }

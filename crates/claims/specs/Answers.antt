@@ -12,7 +12,7 @@ use lib.ListN.{length, getD}
 use borrow.Author.Tests.{ltb-true, eqb-true, eqb-false}
 use Rattle.answers.specs.declared.Numbers.{Numbers}
 use Rattle.answers.specs.declared.Answer.{Answer}
-use Rattle.answers.specs.declared.Answer.the-variants.{Accepted, BookLength, BookHeader, BookEnd, BookRecord, PlanLength, PlanHeader, PlanEnd, ValueUnknown, DurationOutside, NotSuccessor, PastLastTick, RuleNotMet}
+use Rattle.answers.specs.declared.Answer.the-variants.{Done, BookLength, BookHeader, BookEnd, BookRecord, PlanLength, PlanHeader, PlanEnd, ValueUnknown, DurationOutside, NotSuccessor, PastLastTick, RuleNotMet}
 use Rattle.answers.specs.Numbers.{numbers, numbersOf, noFault, orElse, else-fault, else-next}
 use Rattle.words.specs.Words.{word}
 use Rattle.words.specs.Least.{first, least-law, first-law}
@@ -205,7 +205,7 @@ has-answer (breaks timeline token l k) = (NotSuccessor timeline token, refl)
 has-answer (late timeline token l k) = (PastLastTick timeline token, refl)
 has-answer (unmet rule token l n k) = (RuleNotMet rule token, refl)
 has-answer (unmetOnce rule l q) = (RuleNotMet rule 0, refl)
-has-answer (accepted triggers) = (Accepted triggers, refl)
+has-answer (accepted triggers) = (Done triggers 0, refl)
 
 -- "that two permitted answers are equal": a function whose contract permits r where `numbersOf r` is the judge's answer permits one at least,
 pub judged-answer : (b p : List ℕ) → (r : Answer) × (numbersOf r ≡ judged b p)
@@ -215,7 +215,6 @@ judged-answer b p = has-answer (judged-listed b p)
 pub sheet-answer : (s p : List ℕ) → (r : Answer) × (numbersOf r ≡ judgedSheet s p)
 sheet-answer s p = has-answer (sheet-listed s p)
 
--- and no two that differ in a number. The enum has several cases with the number 0, as `NoFault` and `Accepted 0`, whose three numbers are
--- the same: these are all that a user sees.
+-- and no two that differ in a number.
 pub one-answer : (x : Numbers) (r s : Answer) → numbersOf r ≡ x → numbersOf s ≡ x → numbersOf r ≡ numbersOf s
 one-answer x r s h k = h ∙ sym k

@@ -260,7 +260,7 @@ fn check_tokens(book: &[u32], plan: &[u32]) -> Answer
         }
         v += 1;
     }
-    Answer::NoFault
+    Answer::Done { a: 0, b: 0 }
 }
 
 // What is wrong with the plan, given the book.

@@ -45,7 +45,7 @@ pub fn open(book: &[u32], plan: &[u32], line: u32) -> Opened
         };
     }
     Opened {
-        answer: Answer::NoFault,
+        answer: Answer::Done { a: 0, b: 0 },
         at: Position::at_start(line),
     }
 }

@@ -511,9 +511,9 @@ fn finish(sheet: &[u32], list: &[u64], numbers: &[u32], room: &mut [u32]) -> Ans
         };
     }
     put_book(sheet, list, numbers, m, k, room);
-    Answer::Translated {
-        words: words as u32,
-        alternatives: n as u32,
+    Answer::Done {
+        a: words as u32,
+        b: n as u32,
     }
 }
 
