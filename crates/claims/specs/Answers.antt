@@ -211,10 +211,6 @@ has-answer (accepted triggers) = (Done triggers 0, refl)
 pub judged-answer : (b p : List ℕ) → (r : Answer) × (numbersOf r ≡ judged b p)
 judged-answer b p = has-answer (judged-listed b p)
 
--- the direct judge's too,
+-- and the direct judge's too. OneAnswer shows that it permits no two
 pub sheet-answer : (s p : List ℕ) → (r : Answer) × (numbersOf r ≡ judgedSheet s p)
 sheet-answer s p = has-answer (sheet-listed s p)
-
--- and no two that differ in a number.
-pub one-answer : (x : Numbers) (r s : Answer) → numbersOf r ≡ x → numbersOf s ≡ x → numbersOf r ≡ numbersOf s
-one-answer x r s h k = h ∙ sym k

@@ -3,6 +3,8 @@
 -- Examples has an input for each row. The other files are the laws that these rest on.
 pub mod Papers
 pub mod Answers
+pub mod OneCase
+pub mod OneAnswer
 pub mod Accepted
 pub mod Wrongs
 pub mod Faults
