@@ -10,6 +10,8 @@ pub mod Wrongs
 pub mod Faults
 pub mod FaultsOfRules
 pub mod Specimens
+pub mod Inputs
+pub mod Limits
 pub mod Examples
 pub mod Taken
 pub mod TranslatedGood
