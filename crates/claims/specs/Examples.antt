@@ -17,7 +17,7 @@ use Rattle.book.specs.Specimen.{bookE, sheetE, same}
 use Rattle.plan.specs.Lines.{lineOf}
 use Rattle.verdict.specs.Judged.{judged, judgedSheet}
 use Rattle.translator.specs.Translation.{translation}
-use Rattle.claims.specs.Specimens.{planP1, planP2, freeBook, freeNamed, emptyLine, Specimen, stretches, stands, specimens, all-stand}
+use Rattle.claims.specs.Specimens.{planP1, planP2, emptyPlan, freeBook, freeNamed, Specimen, stretches, stands, specimens, all-stand}
 use Rattle.claims.specs.Matched.{and-so, all-at}
 use Rattle.claims.specs.Papers.{Met, Satisfies}
 use Rattle.claims.specs.RulesMet.{Fails}
@@ -59,9 +59,9 @@ pub examples :
     × (judged bookE (set planP2 9 0) ≡ numbers 10 0 1)
     × (judged bookE (set planP2 10 999999991) ≡ numbers 11 0 1)
     × (judged bookE planP1 ≡ numbers 12 0 3)
-    × (judged freeNamed emptyLine ≡ numbers 12 0 0)
+    × (judged freeNamed emptyPlan ≡ numbers 12 0 0)
     × (judged bookE planP2 ≡ numbers 0 2 0)
-    × (judged freeBook emptyLine ≡ numbers 0 1 0)
+    × (judged freeBook emptyPlan ≡ numbers 0 1 0)
 examples = (
   same-is _ _ (row 13 (omega arith)),
   same-is _ _ (row 14 (omega arith)),

@@ -1,5 +1,5 @@
--- The specimens of document 01 as one table: antt computes each answer, and it is the one stated. A row for every answer 0 to 12, so each
--- "exactly if" of Faults and Accepted has an example here. Assumes nothing.
+-- The specimens of document 01 as one table: antt computes each answer, and it is the one stated. The program `specimens` runs the same words
+-- from files. A row for every answer 0 to 12, so each "exactly if" of Faults and Accepted has an example here. Assumes nothing.
 use mathlib.Core.Path.{_≡_, refl}
 use mathlib.Core.Bool.{Bool, true, false, not, cond}
 use mathlib.Core.List.{List, [], _∷_, flatMap}
@@ -40,28 +40,24 @@ planP2 = 1 ∷ 19 ∷ 2 ∷ 0 ∷ 2 ∷ 2 ∷ 4 ∷ 0 ∷ 10 ∷ 1 ∷ 40 ∷ 0 
 abbrev pub emptyPlan : List ℕ
 emptyPlan = 1 ∷ 7 ∷ 2 ∷ 0 ∷ 0 ∷ 0 ∷ 0 ∷ []
 
--- "A rule without trigger, one alternative, no names, no atoms", over one variable with one value
+-- "A rule without trigger, one alternative, no names, no atoms", over E's two variables
 abbrev pub freeBook : List ℕ
 freeBook =
-    1 ∷ 27 ∷ 1 ∷ 14 ∷ 1 ∷ 16 ∷ 1 ∷ 19 ∷ 1 ∷ 23 ∷ 0 ∷ 27 ∷ 0 ∷ 27
-    ∷ 0 ∷ 1
-    ∷ 1 ∷ noLimit ∷ 1
+    1 ∷ 38 ∷ 2 ∷ 14 ∷ 4 ∷ 18 ∷ 1 ∷ 30 ∷ 1 ∷ 34 ∷ 0 ∷ 38 ∷ 0 ∷ 38
+    ∷ 0 ∷ 2 ∷ 2 ∷ 2
+    ∷ 1 ∷ noLimit ∷ 2 ∷ 1 ∷ noLimit ∷ 1 ∷ 1 ∷ noLimit ∷ 2 ∷ 5 ∷ 60 ∷ 3
     ∷ noLimit ∷ 0 ∷ 0 ∷ 1
     ∷ 0 ∷ 0 ∷ 0 ∷ 0 ∷ []
 
--- "With one name"
+-- "With one name": the decoder's UTF-8
 abbrev pub freeNamed : List ℕ
 freeNamed =
-    1 ∷ 29 ∷ 1 ∷ 14 ∷ 1 ∷ 16 ∷ 1 ∷ 19 ∷ 1 ∷ 23 ∷ 1 ∷ 27 ∷ 0 ∷ 29
-    ∷ 0 ∷ 1
-    ∷ 1 ∷ noLimit ∷ 1
+    1 ∷ 40 ∷ 2 ∷ 14 ∷ 4 ∷ 18 ∷ 1 ∷ 30 ∷ 1 ∷ 34 ∷ 1 ∷ 38 ∷ 0 ∷ 40
+    ∷ 0 ∷ 2 ∷ 2 ∷ 2
+    ∷ 1 ∷ noLimit ∷ 2 ∷ 1 ∷ noLimit ∷ 1 ∷ 1 ∷ noLimit ∷ 2 ∷ 5 ∷ 60 ∷ 3
     ∷ noLimit ∷ 0 ∷ 0 ∷ 1
     ∷ 0 ∷ 1 ∷ 0 ∷ 0
-    ∷ 0 ∷ 0 ∷ []
-
--- the empty plan of their one variable
-abbrev pub emptyLine : List ℕ
-emptyLine = 1 ∷ 5 ∷ 1 ∷ 0 ∷ 0 ∷ []
+    ∷ 0 ∷ 1 ∷ []
 
 -- what document 01 says of an input
 pub data Specimen : Type 0 where
@@ -101,8 +97,8 @@ specimens =
     ∷ byBook bookE (set planP2 10 999999990) (numbers 0 2 0)
     ∷ byBook bookE (set planP2 10 999999991) (numbers 11 0 1)
     -- "A rule without trigger, one alternative, no names, no atoms: met on the empty plan, counts 1. With one name: 12"
-    ∷ byBook freeBook emptyLine (numbers 0 1 0)
-    ∷ byBook freeNamed emptyLine (numbers 12 0 0)
+    ∷ byBook freeBook emptyPlan (numbers 0 1 0)
+    ∷ byBook freeNamed emptyPlan (numbers 12 0 0)
     -- 1 to 4: no book, a header word, an end elsewhere, a bad record, values that no variable uses
     ∷ byBook [] planP2 (numbers 1 0 0)
     ∷ byBook (set bookE 13 41) planP2 (numbers 2 13 0)
