@@ -19,14 +19,14 @@ use Rattle.plan.specs.Fault as plan
 use Rattle.plan.specs.Good.{HeadGood}
 use Rattle.matching.specs.Met.{atomHolds, constraintHolds}
 use Rattle.verdict.specs.Judged.{rulesFault, judged, judgedSheet}
-use Rattle.claims.specs.Stages.{Own, Passed, firstOf, from, noStage, stagesOf, at-stage, ordered, rules-own, in-order}
+use Rattle.claims.specs.Stages.{Stage, Own, Ordered, Passed, firstOf, from, noStage, bookStages, planStages, stagesOf, at-stage, book-ordered, plan-ordered, ordered, rules-own, in-order}
 use Rattle.claims.specs.Wrongs.{First, Tables, None, BookSized, HeaderWrong, TableGood, TableBad, PlanSized, HeadWrong}
 use Rattle.claims.specs.FaultsOfTables.{missed, outside, sized-none, header-none, end-none, with-book, header-is, record-is, plan-sized, head-none, plan-ends, head-is}
 use Rattle.claims.specs.Timelines.{variableOf}
 use Rattle.claims.specs.FaultsOfTokens.{TokenWrong, FirstToken, tokens-is}
 
--- THE FAULT TABLE, row by row, of an answer to a book (edition e is 1) or sheet (2) and a plan
-pub record FaultTable (e : ℕ) (b p : List ℕ) (answer : Numbers) : Type 0 where
+-- THE FAULT TABLE, row by row: of an answer to a book (edition e is 1) or sheet (2), whatever comes after it
+pub record BookTable (e : ℕ) (b : List ℕ) (answer : Numbers) : Type 0 where
   -- 1 "book length not 14..16,384"
   pub fault-1 : (answer ≡ numbers 1 0 0) ↔ ((length b < 14) ⊎ (16384 < length b))
   -- 2 "header word wrong, first of 0..13"
@@ -37,6 +37,11 @@ pub record FaultTable (e : ℕ) (b p : List ℕ) (answer : Numbers) : Type 0 whe
   pub fault-4 : (table row : ℕ) → (answer ≡ numbers 4 table row)
       ↔ (BookSized b × None 14 (HeaderWrong e b) × (ending e b 5 ≡ length b) × (table < 6)
       × ((t : ℕ) → t < table → TableGood e b t) × TableBad e b table row)
+
+-- and of an answer to a plan too
+pub record FaultTable (e : ℕ) (b p : List ℕ) (answer : Numbers) : Type 0 where
+  -- 1 to 4
+  pub book : BookTable e b answer
   -- 5 "plan length below 3 + 2 x variables, or above 16,384"
   pub fault-5 : (answer ≡ numbers 5 0 0) ↔ (Sound e b × ((length p < 3 + 2 * count b 0) ⊎ (16384 < length p)))
   -- 6 "first wrong word before the tokens"
@@ -49,13 +54,11 @@ pub record FaultTable (e : ℕ) (b p : List ℕ) (answer : Numbers) : Type 0 whe
   pub fault-8-to-11 : (n timeline token : ℕ) → 8 ≤ n → n ≤ 11 → (answer ≡ numbers n timeline token)
       ↔ (Sound e b × Tables b p × FirstToken b p timeline token × TokenWrong (variableOf b timeline) (lineOf p timeline) token n)
 
--- THE THEOREM: whatever comes last with the number 12 or none, the answer is as the table says
-pub fault-table : (e : ℕ) (b p : List ℕ) (last : Numbers) → Own 12 13 last
-    → FaultTable e b p (orElse (book.bookFault e b) (orElse (plan.planFault b p) last))
-unfolding book.lengthFault book.endFault plan.lengthFault plan.endFault
-fault-table e b p last own =
-    rw (in-order e b p last)
-    (record {
+-- THE THEOREM for a book or sheet: whatever stages come after it, the answer is as the table says
+pub book-table : (e : ℕ) (b : List ℕ) (after : List Stage) (last : Numbers) → Ordered 5 after last → BookTable e b (firstOf (bookStages e b after) last)
+unfolding book.lengthFault book.endFault
+book-table e b after last own =
+    record {
       fault-1 = let s = stage 0 (numbers 1 0 0) (omega arith) (omega arith) (omega arith) in
           let o = outside 1 (omega arith) (length b) 14 16384 in
           (λ h. o .0 (s .0 h .1), λ h. s .1 (tt, o .1 h));
@@ -79,6 +82,20 @@ fault-table e b p last own =
                 s .1
                 ((sized-none e b .1 (h .0), (header-none e b .1 (h .1), (end-none e b .1 (h .2), tt))), m .1 (h .3, h .4, h .5)),
           );
+    }
+  where
+    stage : (i : ℕ) (z : Numbers) → i < 4 → from 1 (bookStages e b after) i ≤ z .number → z .number < getD (bookStages e b after) i noStage .0
+        → (firstOf (bookStages e b after) last ≡ z) ↔ (Passed (take i (bookStages e b after)) × (getD (bookStages e b after) i noStage .1 ≡ z))
+    stage i z l = at-stage i 1 (bookStages e b after) last z (omega arith) (omega arith) (book-ordered e b after last own)
+
+-- THE THEOREM for a plan too: whatever comes last with the number 12 or none, the answer is as the table says
+pub fault-table : (e : ℕ) (b p : List ℕ) (last : Numbers) → Own 12 13 last
+    → FaultTable e b p (orElse (book.bookFault e b) (orElse (plan.planFault b p) last))
+unfolding plan.lengthFault plan.endFault
+fault-table e b p last own =
+    rw (in-order e b p last)
+    (record {
+      book = book-table e b (planStages b p) last (plan-ordered b p last own);
       fault-5 =
           let s = stage 4 (numbers 5 0 0) (omega arith) (omega arith) (omega arith) in
           let o = outside 5 (omega arith) (length p) (3 + 2 * count b 0) 16384 in

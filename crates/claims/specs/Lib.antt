@@ -9,6 +9,7 @@ pub mod Accepted
 pub mod Wrongs
 pub mod Faults
 pub mod FaultsOfRules
+pub mod FaultsOfTranslation
 pub mod Specimens
 pub mod Inputs
 pub mod Limits
@@ -25,6 +26,7 @@ pub mod Matched
 pub mod RulesMet
 pub mod Expansion
 pub mod Decoded
+pub mod FewAtoms
 pub mod SamePlan
 pub mod Translated
 pub mod TranslatedRules

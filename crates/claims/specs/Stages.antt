@@ -137,21 +137,20 @@ at-last lo (s ∷ stages) last z some h a =
 
 -- ---- the judge's stages
 
--- "Fault numbers, in order of checking": 1 to 4 of a book or sheet, 5 to 7 and 8 to 11 of a plan
+-- "Fault numbers, in order of checking": 1 to 4 of a book or sheet, and then others
+abbrev pub bookStages : ℕ → List ℕ → List Stage → List Stage
+bookStages e b after =
+    (2, book.lengthFault b) ∷ (3, book.headerFault e b) ∷ (4, book.endFault e b) ∷ (5, book.recordFault e b) ∷ after
+
+-- 5 to 7 and 8 to 11 of a plan
+abbrev pub planStages : List ℕ → List ℕ → List Stage
+planStages b p = (6, plan.lengthFault b p) ∷ (7, plan.headFault b p) ∷ (8, plan.endFault b p) ∷ (12, plan.tokensFault b p) ∷ []
+
 abbrev pub stagesOf : ℕ → List ℕ → List ℕ → List Stage
-stagesOf e b p =
-    (2, book.lengthFault b)
-    ∷ (3, book.headerFault e b)
-    ∷ (4, book.endFault e b)
-    ∷ (5, book.recordFault e b)
-    ∷ (6, plan.lengthFault b p)
-    ∷ (7, plan.headFault b p)
-    ∷ (8, plan.endFault b p)
-    ∷ (12, plan.tokensFault b p)
-    ∷ []
+stagesOf e b p = bookStages e b (planStages b p)
 
 -- a test with its number
-own-test : (t : Bool) (n x y : ℕ) → Own n (suc n) (cond t (numbers n x y) noFault)
+pub own-test : (t : Bool) (n x y : ℕ) → Own n (suc n) (cond t (numbers n x y) noFault)
 own-test true n x y = inr (omega arith, omega arith)
 own-test false n x y = inl refl
 
@@ -187,37 +186,37 @@ module _ (b p : List ℕ) where
       by true = line-own (plan.firstLine b p)
       by false = inl refl
 
--- they are in order, whatever comes last with the number 12 or none
-pub ordered : (e : ℕ) (b p : List ℕ) (last : Numbers) → Own 12 13 last → Ordered 1 (stagesOf e b p) last
-unfolding book.lengthFault book.headerFault book.endFault book.recordFault plan.lengthFault plan.headFault plan.endFault
-ordered e b p last h =
+-- those of a book are in order before others that are
+pub book-ordered : (e : ℕ) (b : List ℕ) (after : List Stage) (last : Numbers) → Ordered 5 after last → Ordered 1 (bookStages e b after) last
+unfolding book.lengthFault book.headerFault book.endFault book.recordFault
+book-ordered e b after last h =
     let n : ℕ = book.firstHeader e b in
-    let t : ℕ = book.firstTable e b in
-    let k : ℕ = plan.firstHead b p in (
+    let t : ℕ = book.firstTable e b in (
       own-test (ltb (length b) 14 || ltb 16384 (length b)) 1 0 0,
       omega arith,
       (
         own-test (ltb n 14) 2 n 0,
         omega arith,
-        (
-          own-end (eqb (ending e b 5) (length b)) 3,
-          omega arith,
-          (
-            own-test (ltb t 6) 4 t (lowest e b t),
-            omega arith,
-            (
-              own-test (ltb (length p) (3 + 2 * count b 0) || ltb 16384 (length p)) 5 0 0,
-              omega arith,
-              (
-                own-test (ltb k (3 + 2 * count b 0)) 6 k 0,
-                omega arith,
-                (own-end (eqb (3 + 2 * count b 0 + 2 * plan.sumBefore p (count b 0)) (length p)) 7, omega arith, (tokens-own b p, omega arith, h)),
-              ),
-            ),
-          ),
-        ),
+        (own-end (eqb (ending e b 5) (length b)) 3, omega arith, (own-test (ltb t 6) 4 t (lowest e b t), omega arith, h)),
       ),
     )
+
+-- those of a plan too, whatever comes last with the number 12 or none
+pub plan-ordered : (b p : List ℕ) (last : Numbers) → Own 12 13 last → Ordered 5 (planStages b p) last
+unfolding plan.lengthFault plan.headFault plan.endFault
+plan-ordered b p last h =
+    let k : ℕ = plan.firstHead b p in (
+      own-test (ltb (length p) (3 + 2 * count b 0) || ltb 16384 (length p)) 5 0 0,
+      omega arith,
+      (
+        own-test (ltb k (3 + 2 * count b 0)) 6 k 0,
+        omega arith,
+        (own-end (eqb (3 + 2 * count b 0 + 2 * plan.sumBefore p (count b 0)) (length p)) 7, omega arith, (tokens-own b p, omega arith, h)),
+      ),
+    )
+
+pub ordered : (e : ℕ) (b p : List ℕ) (last : Numbers) → Own 12 13 last → Ordered 1 (stagesOf e b p) last
+ordered e b p last h = book-ordered e b (planStages b p) last (plan-ordered b p last h)
 
 -- the rules give 12 or no number
 own-last : (t : Bool) (x y n : ℕ) → Own 12 13 (cond t (numbers 12 x y) (numbers 0 n 0))
@@ -229,7 +228,7 @@ unfolding rulesFault
 rules-own holds lines rules = own-last (ltb (first (ruleUnmet holds lines) rules) (length rules)) _ _ _
 
 -- this, or else that, or else the next: in which order it is put together makes no difference
-else-else : (x y z : Numbers) → orElse (orElse x y) z ≡ orElse x (orElse y z)
+pub else-else : (x y z : Numbers) → orElse (orElse x y) z ≡ orElse x (orElse y z)
 unfolding orElse
 else-else x y z = by (eqb (x .number) 0) refl
   where
