@@ -28,12 +28,13 @@ use Rattle.plan.specs.Fault.{planFault}
 use Rattle.plan.specs.Good.{plan-good, plan-good-back, no-number}
 use Rattle.matching.specs.Met.{Choice, nobody, atomHolds, constraintHolds}
 use Rattle.verdict.specs.Judged.{untriggered, counted, triggerLine, isTrigger, examined, ruleUnmet, rulesFault, judged, judgedSheet}
-use Rattle.claims.specs.Papers.{Plan, Satisfies}
+use Rattle.claims.specs.Papers.{Plan, Satisfied, Satisfies}
+use Rattle.claims.specs.Sheets.{SheetSatisfies}
 use Rattle.claims.specs.Laws.{all-to, all-apply, none-first}
 use Rattle.claims.specs.Wrongs.{Tables}
 use Rattle.claims.specs.FaultsOfTables.{book-none}
 use Rattle.claims.specs.Timelines.{plan-iff}
-use Rattle.claims.specs.RulesMet.{SheetSatisfies, Settles, book-settles, sheet-settles}
+use Rattle.claims.specs.RulesMet.{Settles, book-settles, sheet-settles}
 
 -- ---- what is claimed
 
@@ -47,7 +48,7 @@ pub record Solution {C : Type 0} (e : ℕ) (b p : List ℕ) (rules : List (Rule 
 
 -- by a book
 abbrev pub Accepted : List ℕ → List ℕ → Type 0
-Accepted b p = Solution 1 b p (rulesOf atoms b) (Satisfies (lineOf p))
+Accepted b p = Solution 1 b p (rulesOf atoms b) (Satisfies Satisfied (lineOf p))
 
 -- by a sheet, "with constraints in place of atoms"
 abbrev pub SheetAccepted : List ℕ → List ℕ → Type 0
@@ -154,19 +155,19 @@ plan-none {b = b} s p =
     )
 
 module _ {C : Type 0} (holds : Choice → C → Bool) (S : Rule C → Type 0) (F : Rule C → ℕ → Type 0) (rules : List (Rule C)) (e : ℕ) (b p : List ℕ)
-    (settles : Sound e b → All (λ (r : Rule C). Settles holds (lineOf p) r (S r) (F r)) rules) where
+    (settles : Sound e b → Plan (variablesOf b) (lineOf p) → All (λ (r : Rule C). Settles holds (lineOf p) r (S r) (F r)) rules) where
   -- the judge's answer, whatever the rules ask
   abbrev answer : Numbers
   answer = orElse (bookFault e b) (orElse (planFault b p) (rulesFault holds (lineOf p) rules))
 
   -- the rules'
-  satisfied-none : Sound e b → (rulesFault holds (lineOf p) rules .number ≡ 0) ↔ All S rules
-  satisfied-none s =
+  satisfied-none : Sound e b → Plan (variablesOf b) (lineOf p) → (rulesFault holds (lineOf p) rules .number ≡ 0) ↔ All S rules
+  satisfied-none s plan =
       let U : Rule C → Type 0 = λ r. ruleUnmet holds (lineOf p) r ≡ false in
       let T : Rule C → Type 0 = λ r. Settles holds (lineOf p) r (S r) (F r) in
       let n = rules-none holds (lineOf p) rules in (
-        λ h. all-apply U S rules (all-to T (λ r. U r → S r) (λ r j. j .satisfied .0) rules (settles s)) (n .0 h),
-        λ h. n .1 (all-apply S U rules (all-to T (λ r. S r → U r) (λ r j. j .satisfied .1) rules (settles s)) h),
+        λ h. all-apply U S rules (all-to T (λ r. U r → S r) (λ r j. j .satisfied .0) rules (settles s plan)) (n .0 h),
+        λ h. n .1 (all-apply S U rules (all-to T (λ r. S r → U r) (λ r j. j .satisfied .1) rules (settles s plan)) h),
       )
 
   -- all of them
@@ -177,11 +178,11 @@ module _ {C : Type 0} (holds : Choice → C → Bool) (S : Rule C → Type 0) (F
         let t = stages (planFault b p) _ .0 (s .1) in
         let sound = book-none e b .0 (s .0) in
         let q = plan-none sound p .0 (t .0) in
-        record { book = sound; tables = q .0; plan = q .1; satisfied = satisfied-none sound .0 (t .1) },
+        record { book = sound; tables = q .0; plan = q .1; satisfied = satisfied-none sound (q .1) .0 (t .1) },
     λ a.
         stages (bookFault e b) _ .1 (
           book-none e b .1 (a .book),
-          stages (planFault b p) _ .1 (plan-none (a .book) p .1 (a .tables, a .plan), satisfied-none (a .book) .1 (a .satisfied)),
+          stages (planFault b p) _ .1 (plan-none (a .book) p .1 (a .tables, a .plan), satisfied-none (a .book) (a .plan) .1 (a .satisfied)),
         ),
   )
 
@@ -217,9 +218,9 @@ accepted-count b p = solution-count atomHolds _ _ (rulesOf atoms b) 1 b p (book-
 -- the direct judge's
 pub sheet-accepted : (s p : List ℕ) → (judgedSheet s p .number ≡ 0) ↔ SheetAccepted s p
 unfolding judgedSheet
-sheet-accepted s p = solution constraintHolds _ _ (rulesOf constraints s) 2 s p (λ h. sheet-settles s (lineOf p))
+sheet-accepted s p = solution constraintHolds _ _ (rulesOf constraints s) 2 s p (sheet-settles (lineOf p))
 
 -- and its count
 pub sheet-accepted-count : (s p : List ℕ) (n : ℕ) → (judgedSheet s p ≡ numbers 0 n 0) ↔ (SheetAccepted s p × Examined (lineOf p) (rulesOf constraints s) n)
 unfolding judgedSheet
-sheet-accepted-count s p = solution-count constraintHolds _ _ (rulesOf constraints s) 2 s p (λ h. sheet-settles s (lineOf p))
+sheet-accepted-count s p = solution-count constraintHolds _ _ (rulesOf constraints s) 2 s p (sheet-settles (lineOf p))

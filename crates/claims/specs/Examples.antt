@@ -12,17 +12,18 @@ use Rattle.answers.specs.declared.Numbers.{Numbers}
 use Rattle.answers.specs.Numbers.{numbers}
 use Rattle.words.specs.Lists.{all, All}
 use Rattle.book.specs.Rules.{rulesOf}
-use Rattle.book.specs.Encode.{atoms}
+use Rattle.book.specs.Encode.{atoms, constraints}
 use Rattle.book.specs.Specimen.{bookE, sheetE, same}
 use Rattle.plan.specs.Lines.{lineOf}
 use Rattle.verdict.specs.Judged.{judged, judgedSheet}
 use Rattle.translator.specs.Translation.{translation}
 use Rattle.claims.specs.Specimens.{planP1, planP2, emptyPlan, freeBook, freeNamed, Specimen, stretches, stands, specimens, all-stand}
 use Rattle.claims.specs.Matched.{and-so, all-at}
-use Rattle.claims.specs.Papers.{Met, Satisfies}
+use Rattle.claims.specs.Papers.{Satisfied, Met, Satisfies}
+use Rattle.claims.specs.Sheets.{Holds, SheetSatisfies}
 use Rattle.claims.specs.RulesMet.{Fails}
-use Rattle.claims.specs.Accepted.{Accepted, Examined, accepted-count}
-use Rattle.claims.specs.FaultsOfRules.{FirstRule, fault-12}
+use Rattle.claims.specs.Accepted.{Accepted, SheetAccepted, Examined, accepted-count, sheet-accepted-count}
+use Rattle.claims.specs.FaultsOfRules.{FirstRule, fault-12, sheet-fault-12}
 
 -- each row of the table stands
 rows-stand : (xs : List Specimen) → all stands xs ≡ true → All (λ (s : Specimen). stands s ≡ true) xs
@@ -99,5 +100,12 @@ pub P2-accepted : Accepted bookE planP2 × Examined (lineOf planP2) (rulesOf ato
 P2-accepted = accepted-count bookE planP2 2 .0 (examples .14)
 
 -- and P1 isn't: its rule 0 fails first at token 3 of the RIP's line
-pub P1-refused : FirstRule (rulesOf atoms bookE) (Satisfies (lineOf planP1)) (λ r. Fails (lineOf planP1) r (Met (lineOf planP1) r)) 0 3
+pub P1-refused : FirstRule (rulesOf atoms bookE) (Satisfies Satisfied (lineOf planP1)) (λ r. Fails (lineOf planP1) r (Met Satisfied (lineOf planP1) r)) 0 3
 P1-refused = fault-12 bookE planP1 0 3 .0 (examples .12) .3
+
+-- the same of E's rule as a sheet
+pub P2-sheet-accepted : SheetAccepted sheetE planP2 × Examined (lineOf planP2) (rulesOf constraints sheetE) 2
+P2-sheet-accepted = sheet-accepted-count sheetE planP2 2 .0 (sheet-examples .1)
+
+pub P1-sheet-refused : FirstRule (rulesOf constraints sheetE) (SheetSatisfies (lineOf planP1)) (λ r. Fails (lineOf planP1) r (Met Holds (lineOf planP1) r)) 0 3
+P1-sheet-refused = sheet-fault-12 sheetE planP1 0 3 .0 (sheet-examples .0) .3

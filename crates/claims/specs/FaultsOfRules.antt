@@ -21,15 +21,15 @@ use Rattle.plan.specs.declared.Token.{Token}
 use Rattle.plan.specs.Lines.{lineOf}
 use Rattle.plan.specs.Fault.{planFault}
 use Rattle.matching.specs.Met.{Choice, atomHolds, constraintHolds}
-use Rattle.matching.specs.Exists as exists
 use Rattle.verdict.specs.Judged.{noRule, firstUnmet, ruleUnmet, examined, rulesFault, judged, judgedSheet}
-use Rattle.claims.specs.Papers.{Plan, Met, Satisfies}
+use Rattle.claims.specs.Papers.{Plan, Satisfied, Met, Satisfies}
+use Rattle.claims.specs.Sheets.{Holds, SheetSatisfies}
 use Rattle.claims.specs.Stages.{stagesOf, at-last, ordered, rules-own, in-order}
 use Rattle.claims.specs.Wrongs.{First, Tables}
 use Rattle.claims.specs.WrongTests.{unless, first-is}
 use Rattle.claims.specs.FaultsOfTables.{with-book}
 use Rattle.claims.specs.Matched.{all-at}
-use Rattle.claims.specs.RulesMet.{Fails, SheetSatisfies, Settles, book-settles, sheet-settles}
+use Rattle.claims.specs.RulesMet.{Fails, Settles, book-settles, sheet-settles}
 use Rattle.claims.specs.Accepted.{plan-none}
 
 -- "Then come rules in order": the rules before number a are satisfied, and it isn't, first at trigger token c. Fails of RulesMet says where
@@ -64,12 +64,12 @@ rules-given holds lines rules a c =
 -- ---- the judge's answer
 
 module _ {C : Type 0} (holds : Choice → C → Bool) (S : Rule C → Type 0) (F : Rule C → ℕ → Type 0) (rules : List (Rule C)) (e : ℕ) (b p : List ℕ)
-    (settles : Sound e b → All (λ (r : Rule C). Settles holds (lineOf p) r (S r) (F r)) rules) where
+    (settles : Sound e b → Plan (variablesOf b) (lineOf p) → All (λ (r : Rule C). Settles holds (lineOf p) r (S r) (F r)) rules) where
   -- in plain facts, of rules for which the test is settled
-  rules-is : Sound e b → (a c : ℕ) → (rulesFault holds (lineOf p) rules ≡ numbers 12 a c) ↔ FirstRule rules S F a c
-  rules-is s a c =
+  rules-is : Sound e b → Plan (variablesOf b) (lineOf p) → (a c : ℕ) → (rulesFault holds (lineOf p) rules ≡ numbers 12 a c) ↔ FirstRule rules S F a c
+  rules-is s plan a c =
       let g = rules-given holds (lineOf p) rules a c in
-      let each = all-at (λ (r : Rule C). Settles holds (lineOf p) r (S r) (F r)) noRule rules .0 (settles s) in (
+      let each = all-at (λ (r : Rule C). Settles holds (lineOf p) r (S r) (F r)) noRule rules .0 (settles s plan) in (
         λ h.
             let q = g .0 h in
             let f = q .0 in
@@ -99,12 +99,12 @@ module _ {C : Type 0} (holds : Choice → C → Bool) (S : Rule C → Type 0) (F
             let w = with-book e b .0 (q .0) in
             let n = w .1 in
             let r = plan-none (w .0) p .0 (stages _ _ .1 (n .0, stages _ _ .1 (n .1 .0, stages _ _ .1 (n .1 .1 .0, n .1 .1 .1 .0)))) in
-            (w .0, r .0, r .1, rules-is (w .0) a c .0 (q .1)),
+            (w .0, r .0, r .1, rules-is (w .0) (r .1) a c .0 (q .1)),
         λ h.
             let n = stages _ _ .0 (plan-none (h .0) p .1 (h .1, h .2)) in
             let m = stages _ _ .0 (n .1) in
             let l = stages _ _ .0 (m .1) in
-            s .1 (with-book e b .1 (h .0, (n .0, (m .0, (l .0, (l .1, tt))))), rules-is (h .0) a c .1 (h .3)),
+            s .1 (with-book e b .1 (h .0, (n .0, (m .0, (l .0, (l .1, tt))))), rules-is (h .0) (h .2) a c .1 (h .3)),
       )
 
 -- ---- THE THEOREMS
@@ -113,7 +113,7 @@ module _ {C : Type 0} (holds : Choice → C → Bool) (S : Rule C → Type 0) (F
 pub fault-12 : (b p : List ℕ) (a c : ℕ)
     → (judged b p ≡ numbers 12 a c)
     ↔ (Sound 1 b × Tables b p × Plan (variablesOf b) (lineOf p)
-    × FirstRule (rulesOf atoms b) (Satisfies (lineOf p)) (λ r. Fails (lineOf p) r (Met (lineOf p) r)) a c)
+    × FirstRule (rulesOf atoms b) (Satisfies Satisfied (lineOf p)) (λ r. Fails (lineOf p) r (Met Satisfied (lineOf p) r)) a c)
 unfolding judged
 fault-12 b p = fault-rule atomHolds _ _ (rulesOf atoms b) 1 b p (book-settles (lineOf p))
 
@@ -121,6 +121,6 @@ fault-12 b p = fault-rule atomHolds _ _ (rulesOf atoms b) 1 b p (book-settles (l
 pub sheet-fault-12 : (s p : List ℕ) (a c : ℕ)
     → (judgedSheet s p ≡ numbers 12 a c)
     ↔ (Sound 2 s × Tables s p × Plan (variablesOf s) (lineOf p)
-    × FirstRule (rulesOf constraints s) (SheetSatisfies (lineOf p)) (λ r. Fails (lineOf p) r (exists.Met constraintHolds (lineOf p) r)) a c)
+    × FirstRule (rulesOf constraints s) (SheetSatisfies (lineOf p)) (λ r. Fails (lineOf p) r (Met Holds (lineOf p) r)) a c)
 unfolding judgedSheet
-sheet-fault-12 s p = fault-rule constraintHolds _ _ (rulesOf constraints s) 2 s p (λ h. sheet-settles s (lineOf p))
+sheet-fault-12 s p = fault-rule constraintHolds _ _ (rulesOf constraints s) 2 s p (sheet-settles (lineOf p))

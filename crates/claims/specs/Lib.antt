@@ -2,6 +2,7 @@
 -- (rows 1 to 11, with the wrongs of Wrongs) and FaultsOfRules (row 12), 3 in TranslatedGood and Taken; Specimens is the table of specimens, and
 -- Examples has an input for each row. The other files are the laws that these rest on.
 pub mod Papers
+pub mod Sheets
 pub mod Answers
 pub mod OneCase
 pub mod OneAnswer
@@ -23,6 +24,7 @@ pub mod FaultsOfTables
 pub mod FaultsOfTokens
 pub mod Timelines
 pub mod Matched
+pub mod SheetsMet
 pub mod RulesMet
 pub mod Expansion
 pub mod Decoded

@@ -1,7 +1,7 @@
--- The judge's search finds a trigger token met just where the papers' definitions say that it is: some statement of the rule, with some
--- token mapping, is satisfied. Asks for what is so of the rules of a sound book: at most four names, and terms of the kinds 0, 1, 2.
--- Assumes nothing.
-use mathlib.Core.Path.{_≡_, refl, sym, ap, _∙_}
+-- The search finds a trigger token met just where the papers' definitions say that it is: some statement of the rule, with some token
+-- mapping, is satisfied. Whatever alternatives ask; for a book's atoms it asks for what is so of the rules of a sound book: at most four
+-- names, and terms of the kinds 0, 1, 2. Assumes nothing.
+use mathlib.Core.Path.{_≡_, refl, sym, _∙_, subst}
 use mathlib.Core.Bool.{Bool, true, false, _&&_, _||_, not, false≢true}
 use mathlib.Core.Logic.{_↔_, inl, inr, ⊎-elim}
 use mathlib.Core.List.{List, [], _∷_}
@@ -17,9 +17,10 @@ use Rattle.clock.specs.Clock.{noLimit}
 use Rattle.clock.proofs.Laws.{whole}
 use Rattle.book.specs.Rules.{Atom, Alternative, Rule}
 use Rattle.plan.specs.declared.Token.{Token}
-use Rattle.matching.specs.Met.{nobody, timeOf, atomHolds, met}
+use Rattle.matching.specs.Met.{Choice, nobody, timeOf, atomHolds, met}
 use Rattle.matching.specs.Exists as exists
-use Rattle.claims.specs.Papers.{Evaluates, start, end, timestamp, Satisfied, On, noAtom, noStatement, Maps, Met}
+use Rattle.claims.specs.Papers.{tokenOf, Evaluates, start, end, timestamp, Satisfied, On, noName, noStatement, Maps, Met}
+use Rattle.claims.specs.Laws.{all-to}
 use Rattle.claims.specs.Decoded.{AlternativeFine, RuleFine}
 use Rattle.claims.specs.TranslatedRules.{AtomFine}
 use Rattle.claims.specs.WrongTests.{or-so}
@@ -113,56 +114,83 @@ on-among {line} {t} o = record { index = o .number; within = o .below; here = at
 among-on : {line : List Token} {t : Token} → exists.Among t line → On line t
 among-on m = record { number = m .index; below = m .within; is = at-among nobody m }
 
-module _ (lines : ℕ → List Token) (trigger : Token) {b : List ℕ} {some : Bool} where
+-- what is so of every element that is among them
+among-all : {A : Type 0} (P : A → Type 0) (xs : List A) → ((x : A) → exists.Among x xs → P x) → All P xs
+among-all P [] h = tt
+among-all P (x ∷ xs) h =
+    (h x (record { index = 0; within = omega arith; here = refl }),
+      among-all P xs (λ y m. h y (record { index = suc (m .index); within = omega (arith, m .within); here = m .here })))
+
+-- and back
+all-among : {A : Type 0} (P : A → Type 0) (xs : List A) → All P xs → (x : A) → exists.Among x xs → P x
+all-among P xs h x m = subst P (at-among x m) (all-at P x xs .0 h (m .index) (m .within))
+
+-- each name of the alternative has its token on the named timeline
+abbrev pub Named : {C : Type 0} → (ℕ → List Token) → Alternative C → List Token → Type 0
+Named lines a tokens = (i : ℕ) → i < length tokens → On (lines (getD (a .names) i noName .variable)) (tokenOf tokens i)
+
+-- whatever alternatives ask: the search tests it by `holds`, which says for the tokens in question just when it holds
+module _ {C : Type 0} (holds : Choice → C → Bool) (Holds : List Token → C → Type 0) (lines : ℕ → List Token) (trigger : Token) where
+  -- the test says so of all that an alternative asks
+  abbrev pub Tells : Alternative C → Type 0
+  Tells a =
+      (tokens : List Token) → length tokens ≡ length (a .names) → Named lines a tokens
+      → All (λ (q : C). (holds (exists.choiceOf trigger tokens) q ≡ true) ↔ Holds (trigger ∷ tokens) q) (a .asks)
+
   -- tokens meet an alternative just where the statement is satisfied with them
-  statement-iff : (a : Alternative Atom) (tokens : List Token) → AlternativeFine AtomFine 1 b some a
-      → exists.Meets atomHolds lines trigger a tokens ↔ Maps lines trigger a tokens
-  statement-iff a tokens fine =
-      let few = fine .fewNames in
-      let kinds = all-at (AtomFine (length (a .names)) some) noAtom (a .asks) .0 (fine .asks) in (
-        λ m.
-            let each = m .each in
+  statement-iff : (a : Alternative C) (tokens : List Token) → Tells a → exists.Meets holds lines trigger a tokens ↔ Maps Holds lines trigger a tokens
+  statement-iff a tokens tells = (
+    λ m.
+        let each = m .each in
+        let on : Named lines a tokens = λ i l. among-on (m .serve i (omega arith) .variable) in
+        let told = all-among _ (a .asks) (tells tokens (m .each) on) in
+        record {
+          long = m .each;
+          on = on;
+          value = λ i l. m .serve i (omega arith) .value;
+          clause = among-all (Holds (trigger ∷ tokens)) (a .asks) (λ q w. told q w .0 (m .hold q w));
+        },
+    λ m.
+        let long = m .long in
+        let told = all-among _ (a .asks) (tells tokens (m .long) (m .on)) in
+        record {
+          each = m .long;
+          serve = λ i l. record { variable = on-among (m .on i (omega arith)); value = m .value i (omega arith) };
+          hold = λ q w. told q w .1 (all-among (Holds (trigger ∷ tokens)) (a .asks) (m .clause) q w);
+        },
+  )
+
+  -- THE LAW: the search's answer is true exactly if the trigger token is met, as Definition 2.11 says
+  pub met-by : (r : Rule C) → All Tells (r .alternatives) → (met holds lines r trigger ≡ true) ↔ Met Holds lines r trigger
+  met-by r tells =
+      let m = exists.met-iff holds lines trigger r in
+      let told = all-at Tells noStatement (r .alternatives) .0 tells in (
+        λ h.
+            let s = m .0 h in
+            let o = s .ofRule in
+            let is : getD (r .alternatives) (o .index) noStatement ≡ s .alternative = at-among noStatement o in
             record {
-              long = m .each;
-              on = λ i l. among-on (m .serve i (omega arith) .variable);
-              value = λ i l. m .serve i (omega arith) .value;
-              clause = λ j l.
-                  let k = kinds j l in
-                  atom-iff trigger tokens (omega arith) (getD (a .asks) j noAtom) (k .left .kinds) (k .right .kinds) .0 (m .hold _ (among-at (a .asks) noAtom j l));
+              which = o .index;
+              below = o .within;
+              tokens = s .tokens;
+              maps = statement-iff _ (s .tokens) (told (o .index) (o .within)) .0 (rw is (s .meets));
             },
-        λ m.
-            let long = m .long in
-            record {
-              each = m .long;
-              serve = λ i l. record { variable = on-among (m .on i (omega arith)); value = m .value i (omega arith) };
-              hold = λ q w.
-                  let k = kinds (w .index) (w .within) in
-                  ap (λ (x : Atom). atomHolds (exists.choiceOf trigger tokens) x) (sym (at-among noAtom w))
-                  ∙ atom-iff trigger tokens (omega arith) (getD (a .asks) (w .index) noAtom) (k .left .kinds) (k .right .kinds) .1 (m .clause (w .index) (w .within));
-            },
+        λ q.
+            m .1
+            (record {
+              alternative = getD (r .alternatives) (q .which) noStatement;
+              tokens = q .tokens;
+              ofRule = among-at (r .alternatives) noStatement (q .which) (q .below);
+              meets = statement-iff _ (q .tokens) (told (q .which) (q .below)) .1 (q .maps);
+            }),
       )
 
--- THE LAW: the search's answer is true exactly if the trigger token is met, as Definition 2.11 says
-pub met-iff : (lines : ℕ → List Token) (b : List ℕ) (r : Rule Atom) → RuleFine AtomFine 1 b r → (t : Token) → (met atomHolds lines r t ≡ true) ↔ Met lines r t
-met-iff lines b r fine t =
-    let m = exists.met-iff atomHolds lines t r in
-    let fines = all-at (AlternativeFine AtomFine 1 b (not (eqb (r .variable) noLimit))) noStatement (r .alternatives) .0 (fine .alternatives) in (
-      λ h.
-          let s = m .0 h in
-          let o = s .ofRule in
-          let is : getD (r .alternatives) (o .index) noStatement ≡ s .alternative = at-among noStatement o in
-          record {
-            which = o .index;
-            below = o .within;
-            tokens = s .tokens;
-            maps = statement-iff lines t _ (s .tokens) (fines (o .index) (o .within)) .0 (rw is (s .meets));
-          },
-      λ q.
-          m .1
-          (record {
-            alternative = getD (r .alternatives) (q .which) noStatement;
-            tokens = q .tokens;
-            ofRule = among-at (r .alternatives) noStatement (q .which) (q .below);
-            meets = statement-iff lines t _ (q .tokens) (fines (q .which) (q .below)) .1 (q .maps);
-          }),
-    )
+-- of a book: its rules ask atoms
+pub met-iff : (lines : ℕ → List Token) (b : List ℕ) (r : Rule Atom) → RuleFine AtomFine 1 b r → (t : Token)
+    → (met atomHolds lines r t ≡ true) ↔ Met Satisfied lines r t
+met-iff lines b r fine t = met-by atomHolds Satisfied lines t r (all-to (AlternativeFine AtomFine 1 b _) _ tells (r .alternatives) (fine .alternatives))
+  where
+    tells : {some : Bool} (a : Alternative Atom) → AlternativeFine AtomFine 1 b some a → Tells atomHolds Satisfied lines t a
+    tells {some} a f tokens long on =
+        let few = f .fewNames in
+        all-to (AtomFine (length (a .names)) some) _ (λ q k. atom-iff t tokens (omega arith) q (k .left .kinds) (k .right .kinds)) (a .asks) (f .asks)

@@ -9,6 +9,7 @@ use lib.IntN.{pos, subℕ}
 use lib.Signed.{leZ}
 use lib.ListN.{length, getD}
 use Rattle.words.specs.Words.{inSet}
+use Rattle.words.specs.Lists.{All}
 use Rattle.clock.specs.Clock.{lastTick, noLimit}
 use Rattle.book.specs.Rules.{Value, Variable, Name, Atom, Alternative, Rule}
 use Rattle.plan.specs.declared.Token.{Token}
@@ -86,29 +87,28 @@ pub record On (line : List Token) (t : Token) : Type 0 where
 abbrev pub noName : Name
 noName = record { variable = 0; value = 0 }
 
-abbrev pub noAtom : Atom
-noAtom = record { leftKind = 0; left = 0; rightKind = 0; right = 0; lower = 0; upper = 0 }
-
-abbrev pub noStatement : Alternative Atom
+abbrev pub noStatement : {C : Type 0} → Alternative C
 noStatement = record { names = []; asks = [] }
 
--- "π ⊨_η E": each name is mapped to a token of the named variable and value, and the clause's atoms are satisfied
-pub record Maps (lines : ℕ → List Token) (trigger : Token) (statement : Alternative Atom) (tokens : List Token) : Type 0 where
-  pub long : length tokens ≡ length (statement .names)
-  pub on : (i : ℕ) → i < length tokens → On (lines (getD (statement .names) i noName .variable)) (tokenOf tokens i)
-  pub value : (i : ℕ) → i < length tokens → tokenOf tokens i .value ≡ getD (statement .names) i noName .value
-  pub clause : (j : ℕ) → j < length (statement .asks) → Satisfied (trigger ∷ tokens) (getD (statement .asks) j noAtom)
+-- the same for what a book's alternatives ask, atoms, and a sheet's, constraints: Holds says when one holds under a token mapping
+module _ {C : Type 0} (Holds : List Token → C → Type 0) (lines : ℕ → List Token) where
+  -- "π ⊨_η E": each name is mapped to a token of the named variable and value, and the clause's atoms are satisfied
+  pub record Maps (trigger : Token) (statement : Alternative C) (tokens : List Token) : Type 0 where
+    pub long : length tokens ≡ length (statement .names)
+    pub on : (i : ℕ) → i < length tokens → On (lines (getD (statement .names) i noName .variable)) (tokenOf tokens i)
+    pub value : (i : ℕ) → i < length tokens → tokenOf tokens i .value ≡ getD (statement .names) i noName .value
+    pub clause : All (Holds (trigger ∷ tokens)) (statement .asks)
 
--- ---- Definitions 2.8, 2.11: synchronisation rules
+  -- ---- Definitions 2.8, 2.11: synchronisation rules
 
--- some statement of the rule, with some token mapping, is satisfied for the trigger token
-pub record Met (lines : ℕ → List Token) (rule : Rule Atom) (trigger : Token) : Type 0 where
-  pub which : ℕ
-  pub below : which < length (rule .alternatives)
-  pub tokens : List Token
-  pub maps : Maps lines trigger (getD (rule .alternatives) which noStatement) tokens
+  -- some statement of the rule, with some token mapping, is satisfied for the trigger token
+  pub record Met (rule : Rule C) (trigger : Token) : Type 0 where
+    pub which : ℕ
+    pub below : which < length (rule .alternatives)
+    pub tokens : List Token
+    pub maps : Maps trigger (getD (rule .alternatives) which noStatement) tokens
 
--- "π ⊨ R": "for any token τ0 ∈ π(x0), if val(τ0) = v0 then there is .."; a triggerless rule needs it once, for a trigger that no atom names
-pub record Satisfies (lines : ℕ → List Token) (rule : Rule Atom) : Type 0 where
-  pub triggered : (rule .variable ≡ noLimit → ⊥) → (t : Token) → On (lines (rule .variable)) t → t .value ≡ rule .value → Met lines rule t
-  pub triggerless : rule .variable ≡ noLimit → Met lines rule nobody
+  -- "π ⊨ R": "for any token τ0 ∈ π(x0), if val(τ0) = v0 then there is .."; a triggerless rule needs it once, for a trigger that no atom names
+  pub record Satisfies (rule : Rule C) : Type 0 where
+    pub triggered : (rule .variable ≡ noLimit → ⊥) → (t : Token) → On (lines (rule .variable)) t → t .value ≡ rule .value → Met rule t
+    pub triggerless : rule .variable ≡ noLimit → Met rule nobody

@@ -12,30 +12,31 @@ use borrow.Author.Tests.{eqb-true, eqb-false, eq-eqb, not-true}
 use Rattle.words.specs.Lists.{All}
 use Rattle.words.specs.Least.{first-least}
 use Rattle.clock.specs.Clock.{noLimit}
-use Rattle.book.specs.Rules.{Atom, Constraint, Rule, rulesOf, atomAt}
+use Rattle.book.specs.Rules.{Atom, Constraint, Rule, rulesOf, variablesOf, atomAt}
 use Rattle.book.specs.Encode.{atoms, constraints}
 use Rattle.book.specs.Layout.{fifthWidth}
 use Rattle.book.specs.Sound.{Sound}
 use Rattle.book.specs.Inside.{alternative-ranges, name-ranges, ask-ranges}
 use Rattle.plan.specs.declared.Token.{Token}
 use Rattle.matching.specs.Met.{Choice, nobody, atomHolds, constraintHolds, met}
-use Rattle.matching.specs.Exists as exists
 use Rattle.verdict.specs.Judged.{untriggered, triggerLine, isTrigger, unmet, firstUnmet, ruleUnmet}
-use Rattle.claims.specs.Papers.{tokenOf, On, Met, Satisfies}
-use Rattle.claims.specs.Laws.{all-to, all-each}
-use Rattle.claims.specs.Decoded.{RuleFine, rules-fine}
+use Rattle.claims.specs.Papers.{tokenOf, Plan, Satisfied, On, Met, Satisfies}
+use Rattle.claims.specs.Sheets.{Holds, SheetSatisfies}
+use Rattle.claims.specs.Laws.{all-to}
+use Rattle.claims.specs.Decoded.{RuleFine, ConstraintFine, rules-fine, sheet-rules}
 use Rattle.claims.specs.TranslatedRules.{AtomFine}
 use Rattle.claims.specs.Wrongs.{First, None}
 use Rattle.claims.specs.WrongTests.{unless, none-is, first-is}
 use Rattle.claims.specs.Matched.{and-so, met-iff}
+use Rattle.claims.specs.SheetsMet.{trigger-proper, sheet-met-iff}
 
 -- ---- what is claimed
 
 module _ {C : Type 0} (lines : ℕ → List Token) (rule : Rule C) (Met : Token → Type 0) where
   -- "for any token τ0 ∈ π(x0), if val(τ0) = v0 then" it is met; without a trigger once, for nobody. Met says when a trigger token is met
-  pub record Every : Type 0 where
-    pub triggered : (rule .variable ≡ noLimit → ⊥) → (t : Token) → On (lines (rule .variable)) t → t .value ≡ rule .value → Met t
-    pub triggerless : rule .variable ≡ noLimit → Met nobody
+  record Every : Type 0 where
+    triggered : (rule .variable ≡ noLimit → ⊥) → (t : Token) → On (lines (rule .variable)) t → t .value ≡ rule .value → Met t
+    triggerless : rule .variable ≡ noLimit → Met nobody
 
   -- the rule isn't satisfied, first at trigger token c: "rule, trigger token; 0 without trigger"
   pub data Fails : ℕ → Type 0 where
@@ -46,10 +47,6 @@ module _ {C : Type 0} (lines : ℕ → List Token) (rule : Rule C) (Met : Token 
         → ((i : ℕ) → i < c → tokenOf (lines (rule .variable)) i .value ≡ rule .value → Met (tokenOf (lines (rule .variable)) i))
         → Fails c
     triggerless : rule .variable ≡ noLimit → (Met nobody → ⊥) → Fails 0
-
--- a rule of a sheet is satisfied: each trigger token has an alternative and tokens for its names so that all constraints hold
-abbrev pub SheetSatisfies : (ℕ → List Token) → Rule Constraint → Type 0
-SheetSatisfies lines r = Every lines r (exists.Met constraintHolds lines r)
 
 -- the judge's test of a rule settles whether it is satisfied, and where it fails
 pub record Settles {C : Type 0} (holds : Choice → C → Bool) (lines : ℕ → List Token) (r : Rule C) (Satisfied : Type 0) (FailsAt : ℕ → Type 0) : Type 0 where
@@ -95,15 +92,10 @@ module _ {C : Type 0} (lines : ℕ → List Token) (r : Rule C) (M : Token → T
   fails-from false e _ (triggered c n l v m h) = (l, (eq-eqb _ _ v, m), λ i k t. h i k (eqb-true _ _ t))
   fails-from false e _ (triggerless q m) = absurd (eqb-false _ _ e q)
 
-  -- a rule that fails isn't satisfied
-  pub fails-every : {c : ℕ} → Fails lines r M c → Every lines r M → ⊥
-  fails-every (triggered c n l v m h) s = m (s .triggered n _ (record { number = c; below = l; is = refl }) v)
-  fails-every (triggerless q m) s = m (s .triggerless q)
-
 -- ---- the judge's test, where its search says when a trigger token is met
 
 module _ {C : Type 0} (holds : Choice → C → Bool) (lines : ℕ → List Token) (r : Rule C) (M : Token → Type 0)
-    (iff : (t : Token) → (met holds lines r t ≡ true) ↔ M t) where
+    (iff : (i : ℕ) → (met holds lines r (tokenOf (triggerLine lines r) i) ≡ true) ↔ M (tokenOf (triggerLine lines r) i)) where
   -- the tokens among which the trigger tokens are
   abbrev line : List Token
   line = triggerLine lines r
@@ -117,7 +109,7 @@ module _ {C : Type 0} (holds : Choice → C → Bool) (lines : ℕ → List Toke
   unmet-iff i =
       let t : Token = getD line i nobody in
       let a = and-so (isTrigger lines r t) (not (met holds lines r t)) in
-      let u = unless (met holds lines r t) (M t) (iff t) in (
+      let u = unless (met holds lines r t) (M t) (iff i) in (
         λ h. let q = a .0 h in (q .0, u .0 (not-true _ (q .1))),
         λ h. a .1 (h .0, ap not (u .1 (h .1))),
       )
@@ -127,8 +119,8 @@ module _ {C : Type 0} (holds : Choice → C → Bool) (lines : ℕ → List Toke
   met-unless i = (λ n h. by (met holds lines r (getD line i nobody)) refl n h, λ f u. u .1 (f (u .0)))
     where
       by : (x : Bool) → met holds lines r (getD line i nobody) ≡ x → (Unmet i → ⊥) → isTrigger lines r (getD line i nobody) ≡ true → M (getD line i nobody)
-      by true e n h = iff _ .0 e
-      by false e n h = absurd (n (h, unless _ _ (iff _) .0 e))
+      by true e n h = iff i .0 e
+      by false e n h = absurd (n (h, unless _ _ (iff i) .0 e))
 
   -- none is unmet, or which is the first
   none-unmet : (ruleUnmet holds lines r ≡ false) ↔ None (length line) Unmet
@@ -175,24 +167,30 @@ book-rules {b} h =
       asks = λ i l. let q = h .atoms (λ z. omega arith) i l in record { left = q .left; right = q .right; bounds = q .bounds };
     })
 
+-- whatever alternatives ask, in the papers' words
+settles-by : {C : Type 0} (holds : Choice → C → Bool) (Holds : List Token → C → Type 0) (lines : ℕ → List Token) (r : Rule C)
+    → ((i : ℕ) → (met holds lines r (tokenOf (triggerLine lines r) i) ≡ true) ↔ Met Holds lines r (tokenOf (triggerLine lines r) i))
+    → Settles holds lines r (Satisfies Holds lines r) (Fails lines r (Met Holds lines r))
+settles-by holds Holds lines r iff =
+    let j = settles holds lines r (Met Holds lines r) iff in
+    record {
+      satisfied = (
+        λ h. let e = j .satisfied .0 h in record { triggered = e .triggered; triggerless = e .triggerless },
+        λ h. j .satisfied .1 (record { triggered = h .triggered; triggerless = h .triggerless }),
+      );
+      fails = j .fails;
+    }
+
 -- so the judge settles for each whether the plan satisfies it, by Definition 2.11
-pub book-settles : {b : List ℕ} (lines : ℕ → List Token) → Sound 1 b
-    → All (λ (r : Rule Atom). Settles atomHolds lines r (Satisfies lines r) (Fails lines r (Met lines r))) (rulesOf atoms b)
-book-settles {b} lines s = all-to (RuleFine AtomFine 1 b) _ each (rulesOf atoms b) (book-rules s)
-  where
-    each : (r : Rule Atom) → RuleFine AtomFine 1 b r → Settles atomHolds lines r (Satisfies lines r) (Fails lines r (Met lines r))
-    each r f =
-        let j = settles atomHolds lines r (Met lines r) (met-iff lines b r f) in
-        record {
-          satisfied = (
-            λ h. let e = j .satisfied .0 h in record { triggered = e .triggered; triggerless = e .triggerless },
-            λ h. j .satisfied .1 (record { triggered = h .triggered; triggerless = h .triggerless }),
-          );
-          fails = j .fails;
-        }
+pub book-settles : {b : List ℕ} (lines : ℕ → List Token) → Sound 1 b → Plan (variablesOf b) lines
+    → All (λ (r : Rule Atom). Settles atomHolds lines r (Satisfies Satisfied lines r) (Fails lines r (Met Satisfied lines r))) (rulesOf atoms b)
+book-settles {b} lines s plan =
+    all-to (RuleFine AtomFine 1 b) _ (λ r f. settles-by atomHolds Satisfied lines r (λ i. met-iff lines b r f _)) (rulesOf atoms b) (book-rules s)
 
 -- and the direct judge for each rule of a sheet
-pub sheet-settles : (s : List ℕ) (lines : ℕ → List Token)
-    → All (λ (r : Rule Constraint). Settles constraintHolds lines r (SheetSatisfies lines r) (Fails lines r (exists.Met constraintHolds lines r))) (rulesOf constraints s)
-sheet-settles s lines =
-    all-each _ (λ r. settles constraintHolds lines r (exists.Met constraintHolds lines r) (λ t. exists.met-iff constraintHolds lines t r)) (rulesOf constraints s)
+pub sheet-settles : {s : List ℕ} (lines : ℕ → List Token) → Sound 2 s → Plan (variablesOf s) lines
+    → All (λ (r : Rule Constraint). Settles constraintHolds lines r (SheetSatisfies lines r) (Fails lines r (Met Holds lines r))) (rulesOf constraints s)
+sheet-settles {s} lines h plan =
+    all-to (RuleFine ConstraintFine 2 s) _
+    (λ r f. settles-by constraintHolds Holds lines r (λ i. sheet-met-iff s lines plan r f _ (trigger-proper s lines plan r (f .trigger) i)))
+    (rulesOf constraints s) (sheet-rules h)
