@@ -22,6 +22,7 @@ pub mod Stages
 pub mod WrongTests
 pub mod FaultsOfTables
 pub mod FaultsOfTokens
+pub mod RunningSums
 pub mod Timelines
 pub mod Matched
 pub mod SheetsMet
