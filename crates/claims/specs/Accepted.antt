@@ -39,7 +39,7 @@ use Rattle.claims.specs.RulesMet.{Settles, book-settles, sheet-settles}
 -- ---- what is claimed
 
 -- "π is a solution plan": the words say a book (edition e is 1) or sheet (2) and a plan, whose timelines are over the book's state variables
--- (Definitions 2.1 to 2.4), and "π ⊨ R for all synchronisation rules R" (Definition 2.13)
+-- (001, Definitions 1, 2 and 4), and "π ⊨ R for all synchronisation rules R" (000, Definition 2.13)
 pub record Solution {C : Type 0} (e : ℕ) (b p : List ℕ) (rules : List (Rule C)) (Satisfied : Rule C → Type 0) : Type 0 where
   pub book : Sound e b
   pub tables : Tables b p

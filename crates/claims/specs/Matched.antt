@@ -160,7 +160,7 @@ module _ {C : Type 0} (holds : Choice → C → Bool) (Holds : List Token → C 
         },
   )
 
-  -- THE LAW: the search's answer is true exactly if the trigger token is met, as Definition 2.11 says
+  -- THE LAW: the search's answer is true exactly if the trigger token is met, as 000, Definition 2.11 says
   pub met-by : (r : Rule C) → All Tells (r .alternatives) → (met holds lines r trigger ≡ true) ↔ Met Holds lines r trigger
   met-by r tells =
       let m = exists.met-iff holds lines trigger r in

@@ -1,5 +1,6 @@
 -- What the papers define, over the decoded book and plan, as Types: state variable, token, timeline, plan, atom, existential statement,
--- rule, and when a plan satisfies a rule. Numbers of definitions are those of source document 000. Assumes nothing.
+-- rule, and when a plan satisfies a rule. "001, Definition 2" is of source document 001, section 2, which decides on durations and successors;
+-- "000, Definition 2.10" of source document 000, which gives the satisfaction of rules. Assumes nothing.
 use mathlib.Core.Path.{_≡_}
 use mathlib.Core.Logic.{_⊎_}
 use mathlib.Core.Bool.{true}
@@ -15,21 +16,21 @@ use Rattle.book.specs.Rules.{Value, Variable, Name, Atom, Alternative, Rule}
 use Rattle.plan.specs.declared.Token.{Token}
 use Rattle.matching.specs.Met.{nobody}
 
--- ---- Definitions 2.1 to 2.4: state variables, tokens, timelines, plans
+-- ---- 001, Definitions 1, 2 and 4: state variables, tokens, timelines, plans
 
 abbrev pub noValue : Value
 noValue = record { least = 0; greatest = 0; successors = 0 }
 
--- value v of the variable x; v is one of its values where v < length (x .values), its domain V_x
+-- 001, Definition 1, "V_x is the finite domain of the variable": value v of x; it is one of them where v < length (x .values)
 abbrev pub valueOf : Variable → ℕ → Value
 valueOf x v = getD (x .values) v noValue
 
--- D_x: value v of x may last d; "a maximum may be unbounded"
+-- 001, Definitions 1 and 2, "D_x(v) = (d_min, d_max) and d_min ≤ d ≤ d_max", where d_max may be +∞: value v of x may last d
 pub record Lasts (x : Variable) (v d : ℕ) : Type 0 where
   pub least : valueOf x v .least ≤ d
   pub greatest : (valueOf x v .greatest ≡ noLimit) ⊎ (d ≤ valueOf x v .greatest)
 
--- T_x: value w may follow value v
+-- 001, Definitions 1 and 2, "v_(i+1) ∈ T_x(v_i)": value w may immediately follow value v
 pub record Follows (x : Variable) (v w : ℕ) : Type 0 where
   pub bit : inSet (valueOf x v .successors) w ≡ true
 
@@ -37,11 +38,12 @@ pub record Follows (x : Variable) (v w : ℕ) : Type 0 where
 abbrev pub tokenOf : List Token → ℕ → Token
 tokenOf line i = getD line i nobody
 
--- "duration(τ)"
+-- its duration: 001, "end(T, i) = start(T, i) + d_i"
 abbrev pub durationOf : Token → ℕ
 durationOf t = t .end .tick - t .start .tick
 
--- "each token keeps its value, length and successor and ends by the last tick"; its start is the sum of the durations before it
+-- 001, Definition 2, a timeline for x: "v ∈ V_x", d within D_x, each value in T_x of the one before, "start(T, i) = Σ d_j" over the tokens
+-- before, and "d ∈ ℕ⁺". And by document 01 each token "ends by the last tick"
 pub record Timeline (x : Variable) (line : List Token) : Type 0 where
   pub value : (i : ℕ) → i < length line → tokenOf line i .value < length (x .values)
   pub lasts : (i : ℕ) → i < length line → Lasts x (tokenOf line i .value) (durationOf (tokenOf line i))
@@ -54,20 +56,20 @@ pub record Timeline (x : Variable) (line : List Token) : Type 0 where
 abbrev pub noVariable : Variable
 noVariable = record { values = [] }
 
--- a plan over the state variables: a timeline for each. "Timelines may end at different times" (document 01), where Definition 2.4 asks for
--- one horizon
+-- 001, Definition 4, a plan over the state variables: "timelines .., one for each state variable". "Timelines may end at different times"
+-- (document 01), where that definition asks for "the same horizon"
 pub record Plan (variables : List Variable) (lines : ℕ → List Token) : Type 0 where
   pub timeline : (x : ℕ) → x < length variables → Timeline (getD variables x noVariable) (lines x)
 
--- ---- Definitions 2.5, 2.9: terms and atoms; name 0 is the trigger's, names 1, 2, .. the statement's
+-- ---- 000, Definitions 2.5 and 2.9: terms and atoms; name 0 is the trigger's, names 1, 2, .. the statement's
 
--- "⟦T⟧": the time of a term under a token mapping (the trigger token, then the names' tokens)
+-- 000, Definition 2.9, "⟦T⟧": the time of a term under a token mapping (the trigger token, then the names' tokens)
 pub data Evaluates (mapping : List Token) : ℕ → ℕ → ℕ → Type 0 where
   start : (name : ℕ) → Evaluates mapping 0 name (tokenOf mapping name .start .tick)
   end : (name : ℕ) → Evaluates mapping 1 name (tokenOf mapping name .end .tick)
   timestamp : (t : ℕ) → Evaluates mapping 2 t t
 
--- "l ≤ ⟦T'⟧ - ⟦T⟧ ≤ u", on whole numbers; u may be unbounded
+-- 000, Definition 2.9, "l ≤ ⟦T'⟧ - ⟦T⟧ ≤ u", on whole numbers; u may be +∞
 pub record Satisfied (mapping : List Token) (atom : Atom) : Type 0 where
   pub left : ℕ
   pub right : ℕ
@@ -76,9 +78,9 @@ pub record Satisfied (mapping : List Token) (atom : Atom) : Type 0 where
   pub lower : leZ (pos (atom .lower)) (subℕ right left) ≡ true
   pub upper : (atom .upper ≡ noLimit) ⊎ (leZ (subℕ right left) (pos (atom .upper)) ≡ true)
 
--- ---- Definitions 2.7, 2.10: existential statements
+-- ---- 000, Definitions 2.7 and 2.10: existential statements
 
--- the token t is one of the timeline
+-- "τ ∈ π(x)": the token t is one of the timeline
 pub record On (line : List Token) (t : Token) : Type 0 where
   pub number : ℕ
   pub below : number < length line
@@ -92,14 +94,14 @@ noStatement = record { names = []; asks = [] }
 
 -- the same for what a book's alternatives ask, atoms, and a sheet's, constraints: Holds says when one holds under a token mapping
 module _ {C : Type 0} (Holds : List Token → C → Type 0) (lines : ℕ → List Token) where
-  -- "π ⊨_η E": each name is mapped to a token of the named variable and value, and the clause's atoms are satisfied
+  -- 000, Definition 2.10, "π ⊨_η E": each name is mapped to a token of the named variable and value, and the clause's atoms are satisfied
   pub record Maps (trigger : Token) (statement : Alternative C) (tokens : List Token) : Type 0 where
     pub long : length tokens ≡ length (statement .names)
     pub on : (i : ℕ) → i < length tokens → On (lines (getD (statement .names) i noName .variable)) (tokenOf tokens i)
     pub value : (i : ℕ) → i < length tokens → tokenOf tokens i .value ≡ getD (statement .names) i noName .value
     pub clause : All (Holds (trigger ∷ tokens)) (statement .asks)
 
-  -- ---- Definitions 2.8, 2.11: synchronisation rules
+  -- ---- 000, Definitions 2.8 and 2.11: synchronisation rules
 
   -- some statement of the rule, with some token mapping, is satisfied for the trigger token
   pub record Met (rule : Rule C) (trigger : Token) : Type 0 where
@@ -108,7 +110,7 @@ module _ {C : Type 0} (Holds : List Token → C → Type 0) (lines : ℕ → Lis
     pub tokens : List Token
     pub maps : Maps trigger (getD (rule .alternatives) which noStatement) tokens
 
-  -- "π ⊨ R": "for any token τ0 ∈ π(x0), if val(τ0) = v0 then there is .."; a triggerless rule needs it once, for a trigger that no atom names
+  -- 000, Definition 2.11, "π ⊨ R": "for any token τ0 ∈ π(x0), if val(τ0) = v0 then there is .."; a triggerless rule needs it once, for a trigger that no atom names
   pub record Satisfies (rule : Rule C) : Type 0 where
     pub triggered : (rule .variable ≡ noLimit → ⊥) → (t : Token) → On (lines (rule .variable)) t → t .value ≡ rule .value → Met rule t
     pub triggerless : rule .variable ≡ noLimit → Met rule nobody

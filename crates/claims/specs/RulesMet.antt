@@ -1,4 +1,4 @@
--- A rule is unmet for the judge just where the plan doesn't satisfy it, as Definition 2.11 says, and the trigger token that the judge names
+-- A rule is unmet for the judge just where the plan doesn't satisfy it, as 000, Definition 2.11 says, and the trigger token that the judge names
 -- is the first one that isn't met. For a book, whose rules ask atoms, and for a sheet, whose rules ask constraints. Assumes nothing.
 use mathlib.Core.Path.{_≡_, refl, ap, _∙_, subst}
 use mathlib.Core.Bool.{Bool, true, false, _||_, not, cond}
@@ -181,7 +181,7 @@ settles-by holds Holds lines r iff =
       fails = j .fails;
     }
 
--- so the judge settles for each whether the plan satisfies it, by Definition 2.11
+-- so the judge settles for each whether the plan satisfies it, by 000, Definition 2.11
 pub book-settles : {b : List ℕ} (lines : ℕ → List Token) → Sound 1 b → Plan (variablesOf b) lines
     → All (λ (r : Rule Atom). Settles atomHolds lines r (Satisfies Satisfied lines r) (Fails lines r (Met Satisfied lines r))) (rulesOf atoms b)
 book-settles {b} lines s plan =

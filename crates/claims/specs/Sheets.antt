@@ -9,7 +9,8 @@ use Rattle.book.specs.Rules.{Constraint, Rule}
 use Rattle.plan.specs.declared.Token.{Token}
 use Rattle.claims.specs.Papers.{tokenOf, Satisfies}
 
--- "s and e are start and end of left, s' and e' of right": they stand in the relation with this number
+-- "s and e are start and end of left, s' and e' of right": they stand in the relation with this number. Allen's, as document 001 has them in
+-- section 7, where "finishes" is "ends"
 pub data Relation (s e s' e' : ℕ) : ℕ → Type 0 where
   before : e < s' → Relation s e s' e' 0
   meets : e ≡ s' → Relation s e s' e' 1

@@ -4,7 +4,7 @@ use mathlib.Core.Path.{_≡_, refl, sym, ap, _∙_}
 use mathlib.Core.Bool.{true}
 use mathlib.Core.Logic.{_↔_, _⊎_, inl, inr, ⊎-elim}
 use mathlib.Core.List.{List}
-use Prim.Native.Nat.{ℕ, suc, _+_, _-_, _*_, _≤_, _<_}
+use Prim.Native.Nat.{ℕ, zero, suc, _+_, _-_, _*_, _≤_, _<_}
 use native.Mathlib.Nat.{add-zero}
 use native.Mathlib.Omega.{arith}
 use lib.ListN.{length, getD}
@@ -22,6 +22,25 @@ use Rattle.plan.specs.Laws.{line-length, line-token}
 use Rattle.plan.specs.Good.{TokenGood}
 use Rattle.matching.specs.Met.{nobody}
 use Rattle.claims.specs.Papers.{noValue, valueOf, Lasts, Follows, tokenOf, durationOf, Timeline, noVariable, Plan}
+
+-- ---- a timeline's starts
+
+-- "the sum of the durations before it on its line"
+unfoldable pub durationsBefore : List Token → ℕ → ℕ
+durationsBefore line zero = 0
+durationsBefore line (suc i) = durationsBefore line i + durationOf (tokenOf line i)
+
+-- "A token starts at the sum of the durations before it on its line and ends a duration later", of every timeline as the papers define it
+pub starts-at : {x : Variable} {line : List Token} → Timeline x line → (i : ℕ) → i < length line
+    → (tokenOf line i .start .tick ≡ durationsBefore line i) × (tokenOf line i .end .tick ≡ durationsBefore line (suc i))
+unfolding durationsBefore
+starts-at t zero l = (t .first l, omega (arith, t .first l, t .forward 0 l))
+starts-at t (suc i) l =
+    let before = starts-at t i (omega arith) in
+    let start = t .next i l ∙ before .1 in
+    (start, omega (arith, start, t .forward (suc i) l))
+
+-- ---- what a token keeps
 
 -- token i may follow the token before it; "Any value may stand first"
 abbrev pub After : Variable → List Token → ℕ → Type 0
