@@ -19,6 +19,7 @@ use Rattle.verdict.specs.Judged.{judged, judgedSheet}
 use Rattle.translator.specs.Translation.{translation}
 use Rattle.claims.specs.Specimens.{planP1, planP2, emptyPlan, freeBook, freeNamed, Specimen, stretches, stands, specimens, all-stand}
 use Rattle.claims.specs.Matched.{and-so, all-at}
+use Rattle.claims.specs.Answers.{Listed, bookLength, bookHeader, bookEnd, bookRecord, planLength, planHeader, planEnd, unknown, outside, breaks, late, unmet, accepted}
 use Rattle.claims.specs.Papers.{Satisfied, Met, Satisfies}
 use Rattle.claims.specs.Sheets.{Holds, SheetSatisfies}
 use Rattle.claims.specs.RulesMet.{Fails}
@@ -109,3 +110,19 @@ P2-sheet-accepted = sheet-accepted-count sheetE planP2 2 .0 (sheet-examples .1)
 
 pub P1-sheet-refused : FirstRule (rulesOf constraints sheetE) (SheetSatisfies (lineOf planP1)) (λ r. Fails (lineOf planP1) r (Met Holds (lineOf planP1) r)) 0 3
 P1-sheet-refused = sheet-fault-12 sheetE planP1 0 3 .0 (sheet-examples .0) .3
+
+-- no answer is listed that no input gets
+pub listed-occurs : {x : Numbers} → Listed x → (b : List ℕ) × (p : List ℕ) × (judged b p .number ≡ x .number)
+listed-occurs bookLength = ([], planP2, ap (λ (r : Numbers). r .number) (examples .0))
+listed-occurs (bookHeader word) = (set bookE 13 41, planP2, ap (λ (r : Numbers). r .number) (examples .1))
+listed-occurs bookEnd = (set bookE 12 1, planP2, ap (λ (r : Numbers). r .number) (examples .2))
+listed-occurs (bookRecord table row) = (set bookE 30 2, planP2, ap (λ (r : Numbers). r .number) (examples .3))
+listed-occurs planLength = (bookE, [], ap (λ (r : Numbers). r .number) (examples .5))
+listed-occurs (planHeader word) = (bookE, set planP2 6 513, ap (λ (r : Numbers). r .number) (examples .6))
+listed-occurs planEnd = (bookE, set (take 17 planP2) 1 17, ap (λ (r : Numbers). r .number) (examples .7))
+listed-occurs (unknown timeline token) = (bookE, set planP2 9 2, ap (λ (r : Numbers). r .number) (examples .8))
+listed-occurs (outside timeline token) = (bookE, set planP2 14 4, ap (λ (r : Numbers). r .number) (examples .9))
+listed-occurs (breaks timeline token) = (bookE, set planP2 9 0, ap (λ (r : Numbers). r .number) (examples .10))
+listed-occurs (late timeline token) = (bookE, set planP2 10 999999991, ap (λ (r : Numbers). r .number) (examples .11))
+listed-occurs (unmet rule token) = (bookE, planP1, ap (λ (r : Numbers). r .number) (examples .12))
+listed-occurs (accepted triggers) = (bookE, planP2, ap (λ (r : Numbers). r .number) (examples .14))
