@@ -13,6 +13,7 @@ pub mod FaultsOfRules
 pub mod FaultsOfTranslation
 pub mod Specimens
 pub mod Inputs
+pub mod Files
 pub mod Limits
 pub mod Examples
 pub mod Taken
