@@ -2,8 +2,9 @@
 -- exactly if what it says is so and nothing before it in the order is. For a book and for a sheet alike. Row 12 is `fault-12` in
 -- FaultsOfRules, row 0 `accepted` in Accepted, and Examples has an input for each. Assumes nothing.
 use mathlib.Core.Path.{_≡_}
+use mathlib.Core.Bool.{true}
 use mathlib.Core.Logic.{_↔_, _⊎_}
-use mathlib.Core.List.{List}
+use mathlib.Core.List.{List, _∷_}
 use Prim.Native.Nat.{ℕ, _+_, _*_, _≤_, _<_}
 use native.Mathlib.Omega.{arith}
 use lib.ListN.{length, getD, take}
@@ -19,7 +20,7 @@ use Rattle.plan.specs.Fault as plan
 use Rattle.plan.specs.Good.{HeadGood}
 use Rattle.matching.specs.Met.{atomHolds, constraintHolds}
 use Rattle.verdict.specs.Judged.{rulesFault, judged, judgedSheet}
-use Rattle.claims.specs.Stages.{Stage, Own, Ordered, Passed, firstOf, from, noStage, bookStages, planStages, stagesOf, at-stage, book-ordered, plan-ordered, ordered, rules-own, in-order}
+use Rattle.claims.specs.Stages.{Stage, Own, Owned, Passed, firstOf, noStage, disjoint, bookStages, planStages, stagesOf, lastStage, at-stage, book-owned, plan-owned, owned, judge-disjoint, rules-own, in-order}
 use Rattle.claims.specs.Wrongs.{First, Tables, None, BookSized, HeaderWrong, TableGood, TableBad, PlanSized, HeadWrong}
 use Rattle.claims.specs.FaultsOfTables.{missed, outside, sized-none, header-none, end-none, with-book, header-is, record-is, plan-sized, head-none, plan-ends, head-is}
 use Rattle.claims.specs.Timelines.{variableOf}
@@ -55,24 +56,25 @@ pub record FaultTable (e : ℕ) (b p : List ℕ) (answer : Numbers) : Type 0 whe
       ↔ (Sound e b × Tables b p × FirstToken b p timeline token × TokenWrong (variableOf b timeline) (lineOf p timeline) token n)
 
 -- THE THEOREM for a book or sheet: whatever stages come after it, the answer is as the table says
-pub book-table : (e : ℕ) (b : List ℕ) (after : List Stage) (last : Numbers) → Ordered 5 after last → BookTable e b (firstOf (bookStages e b after) last)
+pub book-table : (e : ℕ) (b : List ℕ) (after : List Stage) (last : Stage) → Owned (last ∷ after) → disjoint (last ∷ bookStages e b after) ≡ true
+    → BookTable e b (firstOf (bookStages e b after) (last .answer))
 unfolding book.lengthFault book.endFault
-book-table e b after last own =
+book-table e b after last own apart =
     record {
-      fault-1 = let s = stage 0 (numbers 1 0 0) (omega arith) (omega arith) (omega arith) in
+      fault-1 = let s = stage 0 (numbers 1 0 0) (omega arith) (omega arith) (omega arith) (omega arith) in
           let o = outside 1 (omega arith) (length b) 14 16384 in
           (λ h. o .0 (s .0 h .1), λ h. s .1 (tt, o .1 h));
       fault-2 = λ k.
-          let s = stage 1 (numbers 2 k 0) (omega arith) (omega arith) (omega arith) in
+          let s = stage 1 (numbers 2 k 0) (omega arith) (omega arith) (omega arith) (omega arith) in
           (λ h. let q = s .0 h in (sized-none e b .0 (q .0 .0), header-is e b k .0 (q .1)), λ h. s .1 ((sized-none e b .1 (h .0), tt), header-is e b k .1 (h .1)));
       fault-3 =
-          let s = stage 2 (numbers 3 0 0) (omega arith) (omega arith) (omega arith) in
+          let s = stage 2 (numbers 3 0 0) (omega arith) (omega arith) (omega arith) (omega arith) in
           let m = missed 3 (omega arith) (ending e b 5) (length b) in (
             λ h. let q = s .0 h in (sized-none e b .0 (q .0 .0), header-none e b .0 (q .0 .1 .0), m .0 (q .1)),
             λ h. s .1 ((sized-none e b .1 (h .0), (header-none e b .1 (h .1), tt)), m .1 (h .2)),
           );
       fault-4 = λ t i.
-          let s = stage 3 (numbers 4 t i) (omega arith) (omega arith) (omega arith) in
+          let s = stage 3 (numbers 4 t i) (omega arith) (omega arith) (omega arith) (omega arith) in
           let m = record-is e b t i in (
             λ h.
                 let q = s .0 h in
@@ -84,9 +86,10 @@ book-table e b after last own =
           );
     }
   where
-    stage : (i : ℕ) (z : Numbers) → i < 4 → from 1 (bookStages e b after) i ≤ z .number → z .number < getD (bookStages e b after) i noStage .0
-        → (firstOf (bookStages e b after) last ≡ z) ↔ (Passed (take i (bookStages e b after)) × (getD (bookStages e b after) i noStage .1 ≡ z))
-    stage i z l = at-stage i 1 (bookStages e b after) last z (omega arith) (omega arith) (book-ordered e b after last own)
+    stage : (i : ℕ) (z : Numbers) → i < 4 → getD (bookStages e b after) i noStage .low ≤ z .number
+        → z .number < getD (bookStages e b after) i noStage .high → 1 ≤ z .number
+        → (firstOf (bookStages e b after) (last .answer) ≡ z) ↔ (Passed (take i (bookStages e b after)) × (getD (bookStages e b after) i noStage .answer ≡ z))
+    stage i z l = at-stage i (bookStages e b after) last z (omega arith) (book-owned e b after last own) apart
 
 -- THE THEOREM for a plan too: whatever comes last with the number 12 or none, the answer is as the table says
 pub fault-table : (e : ℕ) (b p : List ℕ) (last : Numbers) → Own 12 13 last
@@ -95,13 +98,13 @@ unfolding plan.lengthFault plan.endFault
 fault-table e b p last own =
     rw (in-order e b p last)
     (record {
-      book = book-table e b (planStages b p) last (plan-ordered b p last own);
+      book = book-table e b (planStages b p) (lastStage last) (plan-owned b p last own) (judge-disjoint e b p last);
       fault-5 =
-          let s = stage 4 (numbers 5 0 0) (omega arith) (omega arith) (omega arith) in
+          let s = stage 4 (numbers 5 0 0) (omega arith) (omega arith) (omega arith) (omega arith) in
           let o = outside 5 (omega arith) (length p) (3 + 2 * count b 0) 16384 in
           (λ h. let q = s .0 h in (with-book e b .0 (q .0) .0, o .0 (q .1)), λ h. s .1 (with-book e b .1 (h .0, tt), o .1 (h .1)));
       fault-6 = λ k.
-          let s = stage 5 (numbers 6 k 0) (omega arith) (omega arith) (omega arith) in (
+          let s = stage 5 (numbers 6 k 0) (omega arith) (omega arith) (omega arith) (omega arith) in (
             λ h.
                 let q = s .0 h in
                 let w = with-book e b .0 (q .0) in
@@ -109,7 +112,7 @@ fault-table e b p last own =
             λ h. s .1 (with-book e b .1 (h .0, (plan-sized b p .1 (h .1), tt)), head-is b p k .1 (h .2)),
           );
       fault-7 =
-          let s = stage 6 (numbers 7 0 0) (omega arith) (omega arith) (omega arith) in
+          let s = stage 6 (numbers 7 0 0) (omega arith) (omega arith) (omega arith) (omega arith) in
           let m = missed 7 (omega arith) (3 + 2 * count b 0 + 2 * plan.sumBefore p (count b 0)) (length p) in (
             λ h.
                 let q = s .0 h in
@@ -118,7 +121,7 @@ fault-table e b p last own =
             λ h. s .1 (with-book e b .1 (h .0, (plan-sized b p .1 (h .1), (head-none b p .1 (h .2), tt))), m .1 (h .3)),
           );
       fault-8-to-11 = λ n v j low high.
-          let s = stage 7 (numbers n v j) (omega arith) low (omega arith) in
+          let s = stage 7 (numbers n v j) (omega arith) low (omega arith) (omega arith) in
           let t = tokens-is b p n v j low in (
             λ h.
                 let q = s .0 h in
@@ -132,9 +135,9 @@ fault-table e b p last own =
           );
     })
   where
-    stage : (i : ℕ) (z : Numbers) → i < 8 → from 1 (stagesOf e b p) i ≤ z .number → z .number < getD (stagesOf e b p) i noStage .0
-        → (firstOf (stagesOf e b p) last ≡ z) ↔ (Passed (take i (stagesOf e b p)) × (getD (stagesOf e b p) i noStage .1 ≡ z))
-    stage i z l = at-stage i 1 (stagesOf e b p) last z l (omega arith) (ordered e b p last own)
+    stage : (i : ℕ) (z : Numbers) → i < 8 → getD (stagesOf e b p) i noStage .low ≤ z .number → z .number < getD (stagesOf e b p) i noStage .high
+        → 1 ≤ z .number → (firstOf (stagesOf e b p) last ≡ z) ↔ (Passed (take i (stagesOf e b p)) × (getD (stagesOf e b p) i noStage .answer ≡ z))
+    stage i z l = at-stage i (stagesOf e b p) (lastStage last) z l (owned e b p last own) (judge-disjoint e b p last)
 
 -- the judge of a book and a plan
 pub judged-faults : (b p : List ℕ) → FaultTable 1 b p (judged b p)

@@ -24,7 +24,7 @@ use Rattle.matching.specs.Met.{Choice, atomHolds, constraintHolds}
 use Rattle.verdict.specs.Judged.{noRule, firstUnmet, ruleUnmet, examined, rulesFault, judged, judgedSheet}
 use Rattle.claims.specs.Papers.{Plan, Satisfied, Met, Satisfies}
 use Rattle.claims.specs.Sheets.{Holds, SheetSatisfies}
-use Rattle.claims.specs.Stages.{stagesOf, at-last, ordered, rules-own, in-order}
+use Rattle.claims.specs.Stages.{stagesOf, lastStage, at-last, owned, judge-disjoint, rules-own, in-order}
 use Rattle.claims.specs.Wrongs.{First, Tables}
 use Rattle.claims.specs.WrongTests.{unless, first-is}
 use Rattle.claims.specs.FaultsOfTables.{with-book}
@@ -92,7 +92,8 @@ module _ {C : Type 0} (holds : Choice → C → Bool) (S : Rule C → Type 0) (F
   unfolding planFault
   fault-rule a c =
       let last : Numbers = rulesFault holds (lineOf p) rules in
-      let s = at-last 1 (stagesOf e b p) last (numbers 12 a c) (omega arith) (ordered e b p last (rules-own _ _ _)) (inr (omega arith)) in
+      let s = at-last (stagesOf e b p) (lastStage last) (numbers 12 a c) (owned e b p last (rules-own _ _ _)) (judge-disjoint e b p last)
+      (inr (omega arith, omega arith, omega arith)) in
       rw (in-order e b p last) (
         λ h.
             let q = s .0 h in

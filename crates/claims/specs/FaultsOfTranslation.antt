@@ -12,6 +12,7 @@ use lib.ListN.{length, getD, take}
 use borrow.Author.Tests.{ltb-true, ltb-false, lt-ltb, le-ltb}
 use Rattle.answers.specs.declared.Numbers.{Numbers}
 use Rattle.answers.specs.Numbers.{numbers, noFault, orElse, else-next}
+use Rattle.words.specs.Lists.{all}
 use Rattle.words.specs.Least.{first, first-least}
 use Rattle.book.specs.Encode.{altsOf, namesOf, asksOf}
 use Rattle.book.specs.Sound.{Sound}
@@ -19,7 +20,7 @@ use Rattle.book.specs.Fault.{bookFault}
 use Rattle.verdict.specs.Judged.{noRule}
 use Rattle.translator.specs.Translation.{rulesFor, translated, tooMany, tooWide, ruleFault, sizeFault, roomFault, translation}
 use Rattle.claims.specs.Laws.{else-agree}
-use Rattle.claims.specs.Stages.{Stage, Own, Ordered, Passed, firstOf, from, noStage, bookStages, at-stage, at-last, own-test, book-ordered, else-else}
+use Rattle.claims.specs.Stages.{Stage, Own, Owned, Passed, firstOf, stage, noStage, disjoint, bookStages, at-stage, at-last, own-test, book-owned, else-else}
 use Rattle.claims.specs.Wrongs.{First, None}
 use Rattle.claims.specs.WrongTests.{none-is, first-is}
 use Rattle.claims.specs.FaultsOfTables.{given, not-given, book-none, with-book}
@@ -65,10 +66,13 @@ pub record TranslationTable (s : List ℕ) (room : ℕ) (answer : Numbers) : Typ
 
 -- the translator's, after those of the sheet
 abbrev ownStages : List ℕ → ℕ → List Stage
-ownStages s room = (14, ruleFault 13 tooMany (rulesFor s)) ∷ (15, sizeFault s) ∷ (16, roomFault s room) ∷ []
+ownStages s room = stage 13 14 (ruleFault 13 tooMany (rulesFor s)) ∷ stage 14 15 (sizeFault s) ∷ stage 15 16 (roomFault s room) ∷ []
 
 abbrev doneNumbers : List ℕ → Numbers
 doneNumbers s = numbers 0 (length (translated s)) (length (altsOf (rulesFor s)))
+
+abbrev doneStage : List ℕ → Stage
+doneStage s = stage 0 0 (doneNumbers s)
 
 -- a first limit, or else a next
 own-limit : (t : Bool) (a : ℕ) (x : Numbers) → Own 14 15 x → Own 14 15 (cond t (numbers 14 a 0) x)
@@ -76,26 +80,27 @@ own-limit true a x h = inr (omega arith, omega arith)
 own-limit false a x h = h
 
 module _ (s : List ℕ) (room : ℕ) where
-  own-ordered : Ordered 5 (ownStages s room) (doneNumbers s)
+  own-owned : Owned (doneStage s ∷ ownStages s room)
   unfolding ruleFault sizeFault roomFault
-  own-ordered =
+  own-owned =
       let k : ℕ = first tooMany (rulesFor s) in
-      let n : ℕ = length (translated s) in
-      let many : Own 5 14 (cond (ltb k (length (rulesFor s))) (numbers 13 k 0) noFault) = by (ltb k (length (rulesFor s))) k in (
-        many,
-        omega arith,
+      let n : ℕ = length (translated s) in (
+        inl refl,
         (
-          own-limit (ltb 1024 (length (altsOf (rulesFor s)))) 3 _
-          (own-limit (ltb 2048 (length (namesOf (altsOf (rulesFor s))))) 4 _
-          (own-limit (ltb 2048 (length (asksOf (altsOf (rulesFor s))))) 5 _ (own-limit (ltb 16384 n) 6 noFault (inl refl)))),
-          omega arith,
-          (own-test (ltb room n) 15 n 0, omega arith, inl refl),
+          own-test (ltb k (length (rulesFor s))) 13 k 0,
+          (
+            own-limit (ltb 1024 (length (altsOf (rulesFor s)))) 3 _
+            (own-limit (ltb 2048 (length (namesOf (altsOf (rulesFor s))))) 4 _
+            (own-limit (ltb 2048 (length (asksOf (altsOf (rulesFor s))))) 5 _ (own-limit (ltb 16384 n) 6 noFault (inl refl)))),
+            (own-test (ltb room n) 15 n 0, tt),
+          ),
         ),
       )
-    where
-      by : (t : Bool) (k : ℕ) → Own 5 14 (cond t (numbers 13 k 0) noFault)
-      by true k = inr (omega arith, omega arith)
-      by false k = inl refl
+
+  -- no two have a number in common
+  own-apart : disjoint (doneStage s ∷ bookStages 2 s (ownStages s room)) ≡ true
+  unfolding disjoint all
+  own-apart = refl
 
   -- the translator's answer is that of the stages: 16 is never given
   in-order : translation s room ≡ firstOf (bookStages 2 s (ownStages s room)) (doneNumbers s)
@@ -213,14 +218,14 @@ module _ (s : List ℕ) (room : ℕ) where
   translation-faults =
       rw (in-order s room)
       (record {
-        book = book-table 2 s (ownStages s room) (doneNumbers s) (own-ordered s room);
+        book = book-table 2 s (ownStages s room) (doneStage s) (own-owned s room) (own-apart s room);
         fault-13 = λ k.
-            let t = stage 4 (numbers 13 k 0) (omega arith) (omega arith) (omega arith) in (
+            let t = at 4 (numbers 13 k 0) (omega arith) (omega arith) (omega arith) (omega arith) in (
               λ h. let q = t .0 h in (with-book 2 s .0 (q .0) .0, many-is k .0 (q .1)),
               λ h. t .1 (with-book 2 s .1 (h .0, tt), many-is k .1 (h .1)),
             );
         fault-14 = λ a.
-            let t = stage 5 (numbers 14 a 0) (omega arith) (omega arith) (omega arith) in (
+            let t = at 5 (numbers 14 a 0) (omega arith) (omega arith) (omega arith) (omega arith) in (
               λ h.
                   let q = t .0 h in
                   let w = with-book 2 s .0 (q .0) in
@@ -228,7 +233,7 @@ module _ (s : List ℕ) (room : ℕ) where
               λ h. t .1 (with-book 2 s .1 (h .0, (many-none .1 (h .1), tt)), sizes-are a .1 (h .2)),
             );
         fault-15 = λ a.
-            let t = stage 6 (numbers 15 a 0) (omega arith) (omega arith) (omega arith) in (
+            let t = at 6 (numbers 15 a 0) (omega arith) (omega arith) (omega arith) (omega arith) in (
               λ h.
                   let q = t .0 h in
                   let w = with-book 2 s .0 (q .0) in
@@ -237,8 +242,8 @@ module _ (s : List ℕ) (room : ℕ) where
               λ h. t .1 (with-book 2 s .1 (h .0, (many-none .1 (h .1), (sizes-none .1 (h .2), tt))), room-is a .1 (h .3, h .4)),
             );
         done = λ n a.
-            let t = at-last 1 (bookStages 2 s (ownStages s room)) (doneNumbers s) (numbers 0 n a) (omega arith)
-            (book-ordered 2 s (ownStages s room) (doneNumbers s) (own-ordered s room)) (inl refl) in (
+            let t = at-last (bookStages 2 s (ownStages s room)) (doneStage s) (numbers 0 n a)
+            (book-owned 2 s (ownStages s room) (doneStage s) (own-owned s room)) (own-apart s room) (inl refl) in (
               λ h.
                   let q = t .0 h in
                   let w = with-book 2 s .0 (q .0) in
@@ -254,9 +259,9 @@ module _ (s : List ℕ) (room : ℕ) where
       stages : List Stage
       stages = bookStages 2 s (ownStages s room)
 
-      stage : (i : ℕ) (z : Numbers) → i < 7 → from 1 stages i ≤ z .number → z .number < getD stages i noStage .0
-          → (firstOf stages (doneNumbers s) ≡ z) ↔ (Passed (take i stages) × (getD stages i noStage .1 ≡ z))
-      stage i z l = at-stage i 1 stages (doneNumbers s) z l (omega arith) (book-ordered 2 s (ownStages s room) (doneNumbers s) (own-ordered s room))
+      at : (i : ℕ) (z : Numbers) → i < 7 → getD stages i noStage .low ≤ z .number → z .number < getD stages i noStage .high → 1 ≤ z .number
+          → (firstOf stages (doneNumbers s) ≡ z) ↔ (Passed (take i stages) × (getD stages i noStage .answer ≡ z))
+      at i z l = at-stage i stages (doneStage s) z l (book-owned 2 s (ownStages s room) (doneStage s) (own-owned s room)) (own-apart s room)
 
   -- "A sheet is turned away exactly when it is unsound, passes a stated limit, or the room lent is too short": otherwise it is taken
   pub taken-sound : (translation s room .number ≡ 0)

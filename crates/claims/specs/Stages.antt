@@ -1,17 +1,18 @@
--- The stages of the judge in their order of checking, and the one law of them: each gives only numbers of its own, so the answer has a
+-- The stages of a judgement in their order of checking, and the one law of them: each gives only numbers of its own, so the answer has a
 -- stage's number just where that stage gives it and those before found nothing. Assumes nothing.
 use mathlib.Core.Path.{_≡_, refl, sym, ap, _∙_}
-use mathlib.Core.Bool.{Bool, true, false, _||_, _&&_, not, cond}
+use mathlib.Core.Bool.{Bool, true, false, _||_, _&&_, not, cond, false≢true}
 use mathlib.Core.Logic.{_↔_, _⊎_, inl, inr, ⊎-elim}
 use mathlib.Core.List.{List, [], _∷_}
 use Prim.Native.Nat.{ℕ, zero, suc, _+_, _-_, _*_, _≤_, _<_}
 use native.Mathlib.Decide.{ℕ-discrete}
 use native.Mathlib.Omega.{arith}
-use lib.Dec.{ltb, eqb}
+use lib.Dec.{ltb, leb, eqb}
 use lib.ListN.{length, getD, take}
+use borrow.Author.Tests.{leb-true}
 use Rattle.answers.specs.declared.Numbers.{Numbers}
 use Rattle.answers.specs.Numbers.{numbers, noFault, orElse, else-fault, else-next}
-use Rattle.words.specs.Lists.{All}
+use Rattle.words.specs.Lists.{All, all}
 use Rattle.words.specs.Least.{first}
 use Rattle.clock.specs.Clock.{lastTick}
 use Rattle.book.specs.Layout.{count, ending}
@@ -25,62 +26,106 @@ use Rattle.verdict.specs.Judged.{ruleUnmet, rulesFault}
 
 -- ---- stages and their order
 
--- a stage's answer, with the number from which on those after it count
-abbrev pub Stage : Type 0
-Stage = ℕ × Numbers
+-- a stage's answer, with the numbers that it may give: from `low` on, below `high`
+pub record Stage : Type 0 where
+  pub low : ℕ
+  pub high : ℕ
+  pub answer : Numbers
+
+abbrev pub stage : ℕ → ℕ → Numbers → Stage
+stage low high answer = record { low = low; high = high; answer = answer }
 
 -- what stands for a stage past the last
 abbrev pub noStage : Stage
-noStage = (0, noFault)
+noStage = stage 0 0 noFault
 
 -- the first of the stages that found a fault, or else the last answer
 unfoldable pub firstOf : List Stage → Numbers → Numbers
 firstOf [] last = last
-firstOf (s ∷ stages) last = orElse (s .1) (firstOf stages last)
+firstOf (s ∷ stages) last = orElse (s .answer) (firstOf stages last)
 
--- the answer has no number, or one from lo on and below hi
+-- the answer has no number, or one of these
 abbrev pub Own : ℕ → ℕ → Numbers → Type 0
-Own lo hi x = (x .number ≡ 0) ⊎ ((lo ≤ x .number) × (x .number < hi))
+Own low high x = (x .number ≡ 0) ⊎ ((low ≤ x .number) × (x .number < high))
 
--- each stage gives only its own numbers, the first from lo on
-abbrev pub Ordered : ℕ → List Stage → Numbers → Type 0
-Ordered lo [] last = Own lo 13 last
-Ordered lo (s ∷ stages) last = Own lo (s .0) (s .1) × (lo ≤ s .0) × Ordered (s .0) stages last
+-- each stage gives only its own numbers, and so does the last answer
+abbrev pub Owned : List Stage → Type 0
+Owned stages = All (λ (s : Stage). Own (s .low) (s .high) (s .answer)) stages
 
--- where the numbers of stage i begin
-abbrev pub from : ℕ → List Stage → ℕ → ℕ
-from lo stages zero = lo
-from lo [] (suc i) = lo
-from lo (s ∷ stages) (suc i) = from (s .0) stages i
+-- no two stages have a number in common; the order of the numbers is free
+abbrev pub apart : Stage → Stage → Bool
+apart s t = leb (s .high) (t .low) || leb (t .high) (s .low)
+
+unfoldable pub disjoint : List Stage → Bool
+disjoint [] = true
+disjoint (s ∷ stages) = all (apart s) stages && disjoint stages
 
 -- the stages found nothing
 abbrev pub Passed : List Stage → Type 0
-Passed stages = All (λ (s : Stage). s .1 .number ≡ 0) stages
+Passed stages = All (λ (s : Stage). s .answer .number ≡ 0) stages
 
 -- ---- the law
 
--- no stage's numbers begin before the first's
-from-ge : (lo : ℕ) (stages : List Stage) (last : Numbers) → Ordered lo stages last → (i : ℕ) → lo ≤ from lo stages i
-from-ge lo stages last h zero = omega arith
-from-ge lo [] last h (suc i) = omega arith
-from-ge lo (s ∷ stages) last h (suc i) = omega (arith, h .1, from-ge (s .0) stages last (h .2) i)
+both : (a c : Bool) → (a && c) ≡ true → (a ≡ true) × (c ≡ true)
+both true c h = (refl, h)
+both false c h = absurd (false≢true h)
 
--- an answer's number is 0 or not below where the numbers begin
-own-from : {lo hi : ℕ} (x : Numbers) → Own lo hi x → (x .number ≡ 0) ⊎ (lo ≤ x .number)
-own-from x h = ⊎-elim inl (λ q. inr (q .0)) h
+-- what a test over a list says of its first element and of the rest
+all-cons : {A : Type 0} (p : A → Bool) (x : A) (xs : List A) → all p (x ∷ xs) ≡ true → (p x ≡ true) × (all p xs ≡ true)
+unfolding all
+all-cons p x xs = both (p x) (all p xs)
 
--- so no answer has a number before them
-rest-from : (lo : ℕ) (stages : List Stage) (last : Numbers) → Ordered lo stages last
-    → (firstOf stages last .number ≡ 0) ⊎ (lo ≤ firstOf stages last .number)
+all-join : {A : Type 0} (p : A → Bool) (x : A) (xs : List A) → p x ≡ true → all p xs ≡ true → all p (x ∷ xs) ≡ true
+unfolding all
+all-join p x xs h k = rw (h, k)
+
+disjoint-cons : (s : Stage) (stages : List Stage) → disjoint (s ∷ stages) ≡ true → (all (apart s) stages ≡ true) × (disjoint stages ≡ true)
+unfolding disjoint
+disjoint-cons s stages = both (all (apart s) stages) (disjoint stages)
+
+disjoint-join : (s : Stage) (stages : List Stage) → all (apart s) stages ≡ true → disjoint stages ≡ true → disjoint (s ∷ stages) ≡ true
+unfolding disjoint
+disjoint-join s stages h k = rw (h, k)
+
+either : (a c : Bool) → (a || c) ≡ true → (a ≡ true) ⊎ (c ≡ true)
+either true c h = inl refl
+either false c h = inr h
+
+-- two stages that are apart are so whichever comes first
+apart-back : (s t : Stage) → apart s t ≡ true → apart t s ≡ true
+apart-back s t h = swap (leb (s .high) (t .low)) (leb (t .high) (s .low)) h
+  where
+    swap : (a c : Bool) → (a || c) ≡ true → (c || a) ≡ true
+    swap true true h = refl
+    swap true false h = refl
+    swap false c h = rw h
+
+-- a stage can't give a number of one that is apart from it
+other : (s t : Stage) → Own (s .low) (s .high) (s .answer) → apart s t ≡ true → (n : ℕ) → t .low ≤ n → n < t .high → 1 ≤ n → s .answer .number ≡ n → ⊥
+other s t h q n low high some e =
+    ⊎-elim (λ z. omega arith)
+    (λ o. ⊎-elim (λ (l : leb (s .high) (t .low) ≡ true). omega (arith, leb-true (s .high) (t .low) l)) (λ (l : leb (t .high) (s .low) ≡ true). omega (arith, leb-true (t .high) (s .low) l)) (either (leb (s .high) (t .low)) (leb (t .high) (s .low)) q)) h
+
+-- nor can stages and a last answer that all are
+rest-other : (t : Stage) (stages : List Stage) (l : Stage) → Owned (l ∷ stages) → all (apart t) (l ∷ stages) ≡ true
+    → (n : ℕ) → t .low ≤ n → n < t .high → 1 ≤ n → firstOf stages (l .answer) .number ≡ n → ⊥
 unfolding firstOf
-rest-from lo [] last h = own-from last h
-rest-from lo (s ∷ stages) last h =
-    elim (ℕ-discrete (s .1 .number) 0) [
-      | yes q ↦
-          let l = h .1 in
-          rw (else-next (s .1) (firstOf stages last) q) (⊎-elim inl (λ m. inr (omega arith)) (rest-from (s .0) stages last (h .2)))
-      | no n ↦ rw (else-fault (s .1) (firstOf stages last) n) (own-from (s .1) (h .0))
+rest-other t [] l h q n low high some e = other l t (h .0) (apart-back t l (all-cons (apart t) l [] q .0)) n low high some e
+rest-other t (s ∷ stages) l h q n low high some e =
+    let a = all-cons (apart t) l (s ∷ stages) q in
+    let c = all-cons (apart t) s stages (a .1) in
+    elim (ℕ-discrete (s .answer .number) 0) [
+      | yes z ↦
+          rest-other t stages l (h .0, h .1 .1) (all-join (apart t) l stages (a .0) (c .1)) n low high some
+          (sym (ap (λ (r : Numbers). r .number) (else-next (s .answer) _ z)) ∙ e)
+      | no k ↦ other s t (h .1 .0) (apart-back t s (c .0)) n low high some (sym (ap (λ (r : Numbers). r .number) (else-fault (s .answer) _ k)) ∙ e)
     ]
+
+-- a test that all elements pass is passed by each
+each : {A : Type 0} (p : A → Bool) (d : A) (xs : List A) → all p xs ≡ true → (i : ℕ) → i < length xs → p (getD xs i d) ≡ true
+each p d [] h i l = absurd (omega arith)
+each p d (x ∷ xs) h zero l = all-cons p x xs h .0
+each p d (x ∷ xs) h (suc i) l = each p d xs (all-cons p x xs h .1) i (omega arith)
 
 -- a stage that found something is the answer, and no other
 found : (x y z : Numbers) → (z .number ≡ 0 → ⊥) → (y .number ≡ z .number → ⊥) → (orElse x y ≡ z) ↔ (x ≡ z)
@@ -101,53 +146,61 @@ passed x y z other =
       | no n ↦ (λ e. absurd (other n (ap (λ (r : Numbers). r .number) (sym (else-fault x y n) ∙ e))), λ h. absurd (n (h .0)))
     ]
 
--- a number is not another's own
-beyond : {lo hi : ℕ} (x : Numbers) → Own lo hi x → (n : ℕ) → hi ≤ n → (x .number ≡ 0 → ⊥) → x .number ≡ n → ⊥
-beyond x h n l some e = ⊎-elim some (λ q. omega arith) h
-
 -- THE LAW: the answer is z, whose number is stage i's own, exactly if stage i gives z and the stages before found nothing
-pub at-stage : (i lo : ℕ) (stages : List Stage) (last z : Numbers) → i < length stages → 1 ≤ lo → Ordered lo stages last
-    → from lo stages i ≤ z .number → z .number < getD stages i noStage .0
-    → (firstOf stages last ≡ z) ↔ (Passed (take i stages) × (getD stages i noStage .1 ≡ z))
+pub at-stage : (i : ℕ) (stages : List Stage) (l : Stage) (z : Numbers) → i < length stages → Owned (l ∷ stages) → disjoint (l ∷ stages) ≡ true
+    → getD stages i noStage .low ≤ z .number → z .number < getD stages i noStage .high → 1 ≤ z .number
+    → (firstOf stages (l .answer) ≡ z) ↔ (Passed (take i stages) × (getD stages i noStage .answer ≡ z))
 unfolding firstOf
-at-stage i lo [] last z l some h a c = absurd (omega arith)
-at-stage zero lo (s ∷ stages) last z l some h a c =
-    let f = found (s .1) (firstOf stages last) z (λ e. omega arith) (λ e. ⊎-elim (λ q. omega arith) (λ q. omega arith) (rest-from (s .0) stages last (h .2))) in
-    (λ e. (tt, f .0 e), λ q. f .1 (q .1))
-at-stage (suc i) lo (s ∷ stages) last z l some h a c =
-    let low = from-ge (s .0) stages last (h .2) i in
-    let lo' = h .1 in
-    let p = passed (s .1) (firstOf stages last) z (beyond (s .1) (h .0) (z .number) (omega arith)) in
-    let r = at-stage i (s .0) stages last z (omega arith) (omega arith) (h .2) a c in
-    (λ e. let q = p .0 e in let u = r .0 (q .1) in ((q .0, u .0), u .1), λ q. p .1 (q .0 .0, r .1 (q .0 .1, q .1)))
+at-stage i [] l z here h q low high some = absurd (omega arith)
+at-stage zero (s ∷ stages) l z here h q low high some =
+    let a = disjoint-cons l (s ∷ stages) q in
+    let c = all-cons (apart l) s stages (a .0) in
+    let d = disjoint-cons s stages (a .1) in
+    let f = found (s .answer) (firstOf stages (l .answer)) z (λ e. omega arith)
+    (rest-other s stages l (h .0, h .1 .1) (all-join (apart s) l stages (apart-back l s (c .0)) (d .0)) (z .number) low high some) in
+    (λ e. (tt, f .0 e), λ r. f .1 (r .1))
+at-stage (suc i) (s ∷ stages) l z here h q low high some =
+    let a = disjoint-cons l (s ∷ stages) q in
+    let c = all-cons (apart l) s stages (a .0) in
+    let d = disjoint-cons s stages (a .1) in
+    let p = passed (s .answer) (firstOf stages (l .answer)) z
+    (λ k. other s (getD stages i noStage) (h .1 .0) (each (apart s) noStage stages (d .0) i (omega arith)) (z .number) low high some) in
+    let r = at-stage i stages l z (omega arith) (h .0, h .1 .1) (disjoint-join l stages (c .1) (d .1)) low high some in
+    (λ e. let u = p .0 e in let w = r .0 (u .1) in ((u .0, w .0), w .1), λ w. p .1 (w .0 .0, r .1 (w .0 .1, w .1)))
 
 -- and the last answer's exactly if all stages found nothing
-pub at-last : (lo : ℕ) (stages : List Stage) (last z : Numbers) → 1 ≤ lo → Ordered lo stages last
-    → (z .number ≡ 0) ⊎ (from lo stages (length stages) ≤ z .number)
-    → (firstOf stages last ≡ z) ↔ (Passed stages × (last ≡ z))
+pub at-last : (stages : List Stage) (l : Stage) (z : Numbers) → Owned (l ∷ stages) → disjoint (l ∷ stages) ≡ true
+    → (z .number ≡ 0) ⊎ ((l .low ≤ z .number) × (z .number < l .high) × (1 ≤ z .number))
+    → (firstOf stages (l .answer) ≡ z) ↔ (Passed stages × (l .answer ≡ z))
 unfolding firstOf
-at-last lo [] last z some h a = (λ e. (tt, e), λ q. q .1)
-at-last lo (s ∷ stages) last z some h a =
-    let low = from-ge (s .0) stages last (h .2) (length stages) in
-    let lo' = h .1 in
-    let p = passed (s .1) (firstOf stages last) z
-    (λ n e. ⊎-elim (λ q. n (e ∙ q)) (λ q. beyond (s .1) (h .0) (z .number) (omega arith) n e) a) in
-    let r = at-last (s .0) stages last z (omega arith) (h .2) a in
-    (λ e. let q = p .0 e in let u = r .0 (q .1) in ((q .0, u .0), u .1), λ q. p .1 (q .0 .0, r .1 (q .0 .1, q .1)))
+at-last [] l z h q a = (λ e. (tt, e), λ r. r .1)
+at-last (s ∷ stages) l z h q a =
+    let k = disjoint-cons l (s ∷ stages) q in
+    let c = all-cons (apart l) s stages (k .0) in
+    let d = disjoint-cons s stages (k .1) in
+    let p = passed (s .answer) (firstOf stages (l .answer)) z
+    (λ n e. ⊎-elim (λ y. n (e ∙ y)) (λ y. other s l (h .1 .0) (apart-back l s (c .0)) (z .number) (y .0) (y .1) (y .2) e) a) in
+    let r = at-last stages l z (h .0, h .1 .1) (disjoint-join l stages (c .1) (d .1)) a in
+    (λ e. let u = p .0 e in let w = r .0 (u .1) in ((u .0, w .0), w .1), λ w. p .1 (w .0 .0, r .1 (w .0 .1, w .1)))
 
 -- ---- the judge's stages
 
 -- "Fault numbers, in order of checking": 1 to 4 of a book or sheet, and then others
 abbrev pub bookStages : ℕ → List ℕ → List Stage → List Stage
 bookStages e b after =
-    (2, book.lengthFault b) ∷ (3, book.headerFault e b) ∷ (4, book.endFault e b) ∷ (5, book.recordFault e b) ∷ after
+    stage 1 2 (book.lengthFault b) ∷ stage 2 3 (book.headerFault e b) ∷ stage 3 4 (book.endFault e b) ∷ stage 4 5 (book.recordFault e b) ∷ after
 
 -- 5 to 7 and 8 to 11 of a plan
 abbrev pub planStages : List ℕ → List ℕ → List Stage
-planStages b p = (6, plan.lengthFault b p) ∷ (7, plan.headFault b p) ∷ (8, plan.endFault b p) ∷ (12, plan.tokensFault b p) ∷ []
+planStages b p =
+    stage 5 6 (plan.lengthFault b p) ∷ stage 6 7 (plan.headFault b p) ∷ stage 7 8 (plan.endFault b p) ∷ stage 8 12 (plan.tokensFault b p) ∷ []
 
 abbrev pub stagesOf : ℕ → List ℕ → List ℕ → List Stage
 stagesOf e b p = bookStages e b (planStages b p)
+
+-- and the rules: 12, or 0 with the count
+abbrev pub lastStage : Numbers → Stage
+lastStage last = stage 12 13 last
 
 -- a test with its number
 pub own-test : (t : Bool) (n x y : ℕ) → Own n (suc n) (cond t (numbers n x y) noFault)
@@ -186,37 +239,41 @@ module _ (b p : List ℕ) where
       by true = line-own (plan.firstLine b p)
       by false = inl refl
 
--- those of a book are in order before others that are
-pub book-ordered : (e : ℕ) (b : List ℕ) (after : List Stage) (last : Numbers) → Ordered 5 after last → Ordered 1 (bookStages e b after) last
+-- each gives its own numbers: those of a book, before others that do,
+pub book-owned : (e : ℕ) (b : List ℕ) (after : List Stage) (l : Stage) → Owned (l ∷ after) → Owned (l ∷ bookStages e b after)
 unfolding book.lengthFault book.headerFault book.endFault book.recordFault
-book-ordered e b after last h =
+book-owned e b after l h =
     let n : ℕ = book.firstHeader e b in
     let t : ℕ = book.firstTable e b in (
-      own-test (ltb (length b) 14 || ltb 16384 (length b)) 1 0 0,
-      omega arith,
+      h .0,
       (
-        own-test (ltb n 14) 2 n 0,
-        omega arith,
-        (own-end (eqb (ending e b 5) (length b)) 3, omega arith, (own-test (ltb t 6) 4 t (lowest e b t), omega arith, h)),
+        own-test (ltb (length b) 14 || ltb 16384 (length b)) 1 0 0,
+        (own-test (ltb n 14) 2 n 0, (own-end (eqb (ending e b 5) (length b)) 3, (own-test (ltb t 6) 4 t (lowest e b t), h .1))),
       ),
     )
 
--- those of a plan too, whatever comes last with the number 12 or none
-pub plan-ordered : (b p : List ℕ) (last : Numbers) → Own 12 13 last → Ordered 5 (planStages b p) last
+-- and those of a plan, whatever comes last with the number 12 or none
+pub plan-owned : (b p : List ℕ) (last : Numbers) → Own 12 13 last → Owned (lastStage last ∷ planStages b p)
 unfolding plan.lengthFault plan.headFault plan.endFault
-plan-ordered b p last h =
+plan-owned b p last h =
     let k : ℕ = plan.firstHead b p in (
-      own-test (ltb (length p) (3 + 2 * count b 0) || ltb 16384 (length p)) 5 0 0,
-      omega arith,
+      h,
       (
-        own-test (ltb k (3 + 2 * count b 0)) 6 k 0,
-        omega arith,
-        (own-end (eqb (3 + 2 * count b 0 + 2 * plan.sumBefore p (count b 0)) (length p)) 7, omega arith, (tokens-own b p, omega arith, h)),
+        own-test (ltb (length p) (3 + 2 * count b 0) || ltb 16384 (length p)) 5 0 0,
+        (
+          own-test (ltb k (3 + 2 * count b 0)) 6 k 0,
+          (own-end (eqb (3 + 2 * count b 0 + 2 * plan.sumBefore p (count b 0)) (length p)) 7, (tokens-own b p, tt)),
+        ),
       ),
     )
 
-pub ordered : (e : ℕ) (b p : List ℕ) (last : Numbers) → Own 12 13 last → Ordered 1 (stagesOf e b p) last
-ordered e b p last h = book-ordered e b (planStages b p) last (plan-ordered b p last h)
+pub owned : (e : ℕ) (b p : List ℕ) (last : Numbers) → Own 12 13 last → Owned (lastStage last ∷ stagesOf e b p)
+owned e b p last h = book-owned e b (planStages b p) (lastStage last) (plan-owned b p last h)
+
+-- and no two have one in common
+pub judge-disjoint : (e : ℕ) (b p : List ℕ) (last : Numbers) → disjoint (lastStage last ∷ stagesOf e b p) ≡ true
+unfolding disjoint all
+judge-disjoint e b p last = refl
 
 -- the rules give 12 or no number
 own-last : (t : Bool) (x y n : ℕ) → Own 12 13 (cond t (numbers 12 x y) (numbers 0 n 0))
