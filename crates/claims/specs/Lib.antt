@@ -4,7 +4,6 @@
 pub mod Papers
 pub mod Sheets
 pub mod Answers
-pub mod OneCase
 pub mod OneAnswer
 pub mod Accepted
 pub mod Wrongs

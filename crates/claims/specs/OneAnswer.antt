@@ -19,7 +19,7 @@ use Rattle.translator.specs.Translation.{translation, roomAfter}
 use Rattle.reader.specs.declared.Opened.{Opened}
 use Rattle.reader.specs.Opening.{openFault, openAt}
 use Rattle.front.specs.Front.{Stepped}
-use Rattle.claims.specs.OneCase.{one-answer}
+use Rattle.answers.proofs.OneCase.{one-answer}
 
 -- an equation permits one result
 pub settled : {A : Type 0} (x r s : A) → r ≡ x → s ≡ x → r ≡ s

@@ -7,6 +7,7 @@ use lib.Dec.{ltb, eqb}
 use borrow.Author.Tests.{ltb-true, lt-ltb, le-ltb, eq-eqb, ne-eqb}
 use Rattle.answers.specs.declared.Numbers.{Numbers}
 use Rattle.answers.specs.Numbers.{numbers, noFault, orElse, else-fault, else-next, stages, held}
+use Rattle.clock.specs.Clock.{noLimit}
 use Rattle.book.specs.Layout.{count}
 use Rattle.book.specs.Fault.{bookFault}
 use Rattle.plan.specs.declared.Position.{Position}
@@ -23,7 +24,7 @@ openFault b p line = orElse (bookFault 1 b) (orElse (planFault b p) (lineFault b
 
 -- "Opened, it answers 0 0 0 and stands at token 0, start 0; refused, at token N, start 0, which names none"
 unfoldable pub openAt : List ℕ → List ℕ → ℕ → Position
-openAt b p line = cond (eqb (openFault b p line .number) 0) (position line 0 0) (position line 4294967295 0)
+openAt b p line = cond (eqb (openFault b p line .number) 0) (position line 0 0) (position line noLimit 0)
 
 module _ (b p : List ℕ) (line : ℕ) where
   -- where the reader stands, by the answer's number
@@ -31,7 +32,7 @@ module _ (b p : List ℕ) (line : ℕ) where
   unfolding openAt
   opened-at h = rw (eq-eqb _ _ h)
 
-  pub refused-at : (openFault b p line .number ≡ 0 → ⊥) → openAt b p line ≡ position line 4294967295 0
+  pub refused-at : (openFault b p line .number ≡ 0 → ⊥) → openAt b p line ≡ position line noLimit 0
   unfolding openAt
   refused-at h = rw (ne-eqb _ _ h)
 
