@@ -1,29 +1,29 @@
--- Answers 1 to 4: what is wrong with a book (edition e is 1) or a sheet (2), row by row of the fault table. Assumes nothing.
-use mathlib.Core.Bool.{_||_, cond}
-use mathlib.Core.List.{List}
+-- Answers 1 to 4: what is wrong with a book (edition e is 1) or a sheet (2), row by row of the fault table. Rows 1 to 3 are the layout's.
+-- Assumes nothing.
+use mathlib.Core.Bool.{Bool, false, _||_, cond}
+use mathlib.Core.List.{List, [], _∷_}
 use Prim.Native.Nat.{ℕ}
-use lib.Dec.{ltb, eqb}
-use lib.ListN.{length}
+use lib.Dec.{ltb}
+use lib.ListN.{getD}
 use Rattle.answers.specs.declared.Numbers.{Numbers}
 use Rattle.answers.specs.Numbers.{numbers, noFault, orElse}
 use Rattle.words.specs.Least.{least}
-use Rattle.book.specs.Layout.{ending, headerWrong}
-use Rattle.book.specs.Wrong.{lowest, tableWrong}
+use Rattle.layout.specs.Layout.{count, unused}
+pub use Rattle.layout.specs.Fault.{firstHeader}
+unfoldable pub use Rattle.layout.specs.Fault.{lengthFault, headerFault, endFault}
+use Rattle.records.specs.Wrong.{recordWrong}
 
--- 1 "book length not 14..16,384"
-unfoldable pub lengthFault : List ℕ → Numbers
-lengthFault b = cond (ltb (length b) 14 || ltb 16384 (length b)) (numbers 1 0 0) noFault
+-- the ranges of table t "don't use up the next table"
+unfoldable pub leaves : ℕ → List ℕ → ℕ → Bool
+leaves e b t =
+    getD (unused e b 0 0 1 ∷ false ∷ unused e b 2 2 3 ∷ (unused e b 3 0 4 || unused e b 3 2 5) ∷ false ∷ false ∷ []) t false
 
--- 2 "header word wrong, first of 0..13"
-abbrev pub firstHeader : ℕ → List ℕ → ℕ
-firstHeader e b = least 14 (headerWrong e b)
+-- the "lowest record" that is bad, or the table's count where all are good
+abbrev pub lowest : ℕ → List ℕ → ℕ → ℕ
+lowest e b t = least (count b t) (recordWrong e b t)
 
-unfoldable pub headerFault : ℕ → List ℕ → Numbers
-headerFault e b = cond (ltb (firstHeader e b) 14) (numbers 2 (firstHeader e b) 0) noFault
-
--- 3 "table 5 doesn't end at the length"
-unfoldable pub endFault : ℕ → List ℕ → Numbers
-endFault e b = cond (eqb (ending e b 5) (length b)) noFault (numbers 3 0 0)
+unfoldable pub tableWrong : ℕ → List ℕ → ℕ → Bool
+tableWrong e b t = ltb (lowest e b t) (count b t) || leaves e b t
 
 -- 4 "bad record; tables 0 to 5, lowest record; a table only if those before are good"
 abbrev pub firstTable : ℕ → List ℕ → ℕ

@@ -4,7 +4,7 @@ use Prim.Native.Nat.{ℕ, _+_, _*_}
 use mathlib.Core.List.{List}
 use Rattle.words.specs.Words.{word}
 use Rattle.words.specs.Runs.{run}
-use Rattle.book.specs.Layout.{count, offset}
+use Rattle.layout.specs.Layout.{count, offset}
 
 -- "least duration, greatest, successor set"
 pub record Value : Type 0 where

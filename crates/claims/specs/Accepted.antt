@@ -17,15 +17,15 @@ use Rattle.answers.specs.Numbers.{numbers, orElse, else-next, stages}
 use Rattle.words.specs.Lists.{All}
 use Rattle.words.specs.Least.{first}
 use Rattle.clock.specs.Clock.{noLimit}
-use Rattle.book.specs.Layout.{count}
+use Rattle.layout.specs.Layout.{count}
 use Rattle.book.specs.Rules.{Rule, rulesOf, variablesOf}
 use Rattle.book.specs.Encode.{atoms, constraints}
 use Rattle.book.specs.Sound.{Sound}
 use Rattle.book.specs.Fault.{bookFault}
-use Rattle.plan.specs.declared.Token.{Token}
-use Rattle.plan.specs.Lines.{lineOf}
+use Rattle.lines.specs.declared.Token.{Token}
+use Rattle.lines.specs.Lines.{lineOf}
 use Rattle.plan.specs.Fault.{planFault}
-use Rattle.plan.specs.Good.{plan-good, plan-good-back, no-number}
+use Rattle.plan.proofs.Good.{plan-good, plan-good-back, no-number}
 use Rattle.matching.specs.Met.{Choice, nobody, atomHolds, constraintHolds}
 use Rattle.verdict.specs.Judged.{untriggered, counted, triggerLine, isTrigger, examined, ruleUnmet, rulesFault, judged, judgedSheet}
 use Rattle.claims.specs.Papers.{Plan, Satisfied, Satisfies}

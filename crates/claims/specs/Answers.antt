@@ -15,12 +15,12 @@ use Rattle.answers.specs.declared.Answer.{Answer}
 use Rattle.answers.specs.declared.Answer.the-variants.{Done, BookLength, BookHeader, BookEnd, BookRecord, PlanLength, PlanHeader, PlanEnd, ValueUnknown, DurationOutside, NotSuccessor, PastLastTick, RuleNotMet}
 use Rattle.answers.specs.Numbers.{numbers, numbersOf, noFault, orElse, else-fault, else-next}
 use Rattle.words.specs.Least.{first}
-use Rattle.book.specs.Layout.{count, ending}
-use Rattle.book.specs.Wrong.{lowest}
+use Rattle.layout.specs.Layout.{count, ending}
+use Rattle.book.specs.Fault.{lowest}
 use Rattle.book.specs.Rules.{Rule, rulesOf}
 use Rattle.book.specs.Encode.{atoms, constraints}
 use Rattle.book.specs.Fault as book
-use Rattle.plan.specs.Lines.{lineOf}
+use Rattle.lines.specs.Lines.{lineOf}
 use Rattle.plan.specs.Fault as plan
 use Rattle.matching.specs.Met.{Choice, atomHolds, constraintHolds}
 use Rattle.verdict.specs.Judged.{noRule, firstUnmet, ruleUnmet, examined, rulesFault, judged, judgedSheet}

@@ -11,12 +11,12 @@ use Rattle.words.specs.Lists.{All}
 use Rattle.words.specs.Words.{word}
 use Rattle.words.specs.Runs.{length-run}
 use Rattle.clock.specs.Clock.{noLimit}
-use Rattle.book.specs.Layout.{fifthWidth, fifthMost, count, offset, recordAt, field, owner}
-use Rattle.book.specs.Wrong.{hasTrigger}
+use Rattle.layout.specs.Layout.{fifthWidth, fifthMost, count, offset, recordAt, field, owner}
+use Rattle.records.specs.Wrong.{hasTrigger}
 use Rattle.book.specs.Rules.{Name, Constraint, Alternative, Rule, Fifth, nameAt, constraintAt, alternativeAt, ruleAt, rulesOf}
 use Rattle.book.specs.Encode.{constraints}
 use Rattle.book.specs.Sound.{Exist, NameSound, TokenSound, Sound, namesAt, triggerAt}
-use Rattle.book.specs.Inside.{Ranges, alternative-ranges, name-ranges, ask-ranges, owned}
+use Rattle.book.proofs.Inside.{Ranges, alternative-ranges, name-ranges, ask-ranges, owned}
 use Rattle.claims.specs.Laws.{run-all, run-records}
 
 -- "Trigger variable N means no trigger; the trigger value is then 0. Otherwise both exist"

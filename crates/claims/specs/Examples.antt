@@ -13,8 +13,8 @@ use Rattle.answers.specs.Numbers.{numbers}
 use Rattle.words.specs.Lists.{all, All}
 use Rattle.book.specs.Rules.{rulesOf}
 use Rattle.book.specs.Encode.{atoms, constraints}
-use Rattle.book.specs.Specimen.{bookE, sheetE, same}
-use Rattle.plan.specs.Lines.{lineOf}
+use Rattle.book.proofs.Specimen.{bookE, sheetE, same}
+use Rattle.lines.specs.Lines.{lineOf}
 use Rattle.verdict.specs.Judged.{judged, judgedSheet}
 use Rattle.translator.specs.Translation.{translation}
 use Rattle.claims.specs.Specimens.{planP1, planP2, emptyPlan, freeBook, freeNamed, Specimen, stretches, stands, specimens, all-stand}

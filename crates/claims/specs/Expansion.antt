@@ -15,7 +15,7 @@ use Rattle.words.specs.Least.{first, first-none}
 use Rattle.words.specs.Lists.{any, all, any-same, all-append, any-map, any-flat, any-and, any-and-right, any-any, and-true, and-false, All, all-get, any-on}
 use Rattle.clock.specs.Clock.{noLimit, inBounds}
 use Rattle.book.specs.Rules.{Name, Constraint, Alternative, Rule}
-use Rattle.plan.specs.declared.Token.{Token}
+use Rattle.lines.specs.declared.Token.{Token}
 use Rattle.allen.specs.Relation.{conditions, relationOf, thirteen}
 use Rattle.allen.specs.One.{one-relation, relation-below}
 use Rattle.allen.specs.Atoms.{relations, atomsOf}

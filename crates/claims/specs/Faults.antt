@@ -10,14 +10,14 @@ use native.Mathlib.Omega.{arith}
 use lib.ListN.{length, getD, take}
 use Rattle.answers.specs.declared.Numbers.{Numbers}
 use Rattle.answers.specs.Numbers.{numbers, orElse}
-use Rattle.book.specs.Layout.{count, ending}
+use Rattle.layout.specs.Layout.{count, ending}
 use Rattle.book.specs.Fault as book
 use Rattle.book.specs.Sound.{Sound}
 use Rattle.book.specs.Encode.{atoms, constraints}
 use Rattle.book.specs.Rules.{rulesOf}
-use Rattle.plan.specs.Lines.{lineOf}
+use Rattle.lines.specs.Lines.{lineOf}
 use Rattle.plan.specs.Fault as plan
-use Rattle.plan.specs.Good.{HeadGood}
+use Rattle.lines.specs.Good.{HeadGood}
 use Rattle.matching.specs.Met.{atomHolds, constraintHolds}
 use Rattle.verdict.specs.Judged.{rulesFault, judged, judgedSheet}
 use Rattle.claims.specs.Stages.{Stage, Own, Owned, Passed, firstOf, noStage, disjoint, bookStages, planStages, stagesOf, lastStage, at-stage, book-owned, plan-owned, owned, judge-disjoint, rules-own, in-order}

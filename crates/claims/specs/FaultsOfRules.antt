@@ -17,8 +17,8 @@ use Rattle.book.specs.Encode.{atoms, constraints}
 use Rattle.book.specs.Sound.{Sound}
 use Rattle.book.specs.Fault.{bookFault}
 use Rattle.words.specs.Lists.{All}
-use Rattle.plan.specs.declared.Token.{Token}
-use Rattle.plan.specs.Lines.{lineOf}
+use Rattle.lines.specs.declared.Token.{Token}
+use Rattle.lines.specs.Lines.{lineOf}
 use Rattle.plan.specs.Fault.{planFault}
 use Rattle.matching.specs.Met.{Choice, atomHolds, constraintHolds}
 use Rattle.verdict.specs.Judged.{noRule, firstUnmet, ruleUnmet, examined, rulesFault, judged, judgedSheet}

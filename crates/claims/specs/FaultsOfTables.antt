@@ -10,13 +10,16 @@ use lib.ListN.{length}
 use borrow.Author.Tests.{ltb-true, ltb-false, lt-ltb, le-ltb, eqb-true, eqb-false}
 use Rattle.answers.specs.declared.Numbers.{Numbers}
 use Rattle.answers.specs.Numbers.{numbers, noFault, stages}
-use Rattle.book.specs.Layout.{count, ending, headerWrong}
-use Rattle.book.specs.Wrong.{lowest, tableWrong}
+use Rattle.layout.specs.Layout.{count, ending, headerWrong}
+use Rattle.book.specs.Fault.{lowest, tableWrong}
 use Rattle.book.specs.Fault as book
-use Rattle.book.specs.Good.{or-right, good, good-back, no-number}
-use Rattle.book.specs.Sound.{Sound, sound, sound-back}
+use Rattle.layout.proofs.Tests.{or-right}
+use Rattle.book.proofs.Good.{good, good-back, no-number}
+use Rattle.book.specs.Sound.{Sound}
+use Rattle.book.proofs.Sound.{sound, sound-back}
 use Rattle.plan.specs.Fault as plan
-use Rattle.plan.specs.Good.{HeadGood, head-good, head-back}
+use Rattle.lines.specs.Good.{HeadGood}
+use Rattle.lines.proofs.Head.{head-good, head-back}
 use Rattle.claims.specs.Wrongs.{First, None, BookSized, HeaderWrong, TableGood, TableBad, PlanSized, HeadWrong}
 use Rattle.claims.specs.WrongTests.{or-so, none-is, first-is, header-iff, table-good, table-bad, head-iff}
 

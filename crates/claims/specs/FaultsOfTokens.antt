@@ -13,15 +13,16 @@ use Rattle.answers.specs.declared.Numbers.{Numbers}
 use Rattle.answers.specs.Numbers.{numbers, noFault}
 use Rattle.words.specs.Words.{word, inSet}
 use Rattle.clock.specs.Clock.{lastTick, noLimit}
-use Rattle.book.specs.Layout.{count, valuesOf}
-use Rattle.book.specs.Wrong.{valueUnknown}
-use Rattle.book.specs.Good.{or-right, and-right}
+use Rattle.layout.specs.Layout.{count, valuesOf}
+use Rattle.records.specs.Wrong.{valueUnknown}
+use Rattle.layout.proofs.Tests.{or-right, and-right}
 use Rattle.book.specs.Rules.{Variable}
-use Rattle.plan.specs.declared.Token.{Token}
-use Rattle.plan.specs.Lines.{lineCount, lineOf}
+use Rattle.lines.specs.declared.Token.{Token}
+use Rattle.lines.specs.Lines.{lineCount, lineOf}
 use Rattle.plan.specs.Fault as plan
-use Rattle.plan.specs.Laws.{line-token}
-use Rattle.plan.specs.Good.{TokenGood, token-good, token-back}
+use Rattle.lines.proofs.Laws.{line-token}
+use Rattle.plan.specs.Good.{TokenGood}
+use Rattle.plan.proofs.Good.{outside-right, token-good, token-back}
 use Rattle.matching.specs.Met.{nobody}
 use Rattle.claims.specs.Papers.{Lasts, tokenOf, durationOf}
 use Rattle.claims.specs.Wrongs.{First}
@@ -61,24 +62,6 @@ number-to P false false true l h8 h9 h10 h11 n e m = subst P e (h10 refl refl re
 number-to P false false false true h8 h9 h10 h11 n e m = subst P e (h11 refl refl refl refl)
 number-to P false false false false h8 h9 h10 h11 n e m = absurd (omega arith)
 
--- 9, by the words of the book
-outside-iff : (b : List ℕ) (place d : ℕ)
-    → (plan.durationOutside b place d ≡ false) ↔ ((word b place ≤ d) × ((word b (place + 1) ≡ noLimit) ⊎ (d ≤ word b (place + 1))))
-unfolding plan.durationOutside
-outside-iff b place d =
-    let o = or-right (ltb d (word b place)) (not (eqb (word b (place + 1)) noLimit) && ltb (word b (place + 1)) d) in (
-      λ h. let q = o .0 h in (ltb-false _ _ (q .0), to (eqb (word b (place + 1)) noLimit) refl (q .1)),
-      λ h. o .1 (le-ltb _ _ (h .0), from (h .1)),
-    )
-  where
-    to : (t : Bool) → eqb (word b (place + 1)) noLimit ≡ t → (not t && ltb (word b (place + 1)) d) ≡ false
-        → (word b (place + 1) ≡ noLimit) ⊎ (d ≤ word b (place + 1))
-    to true e h = inl (eqb-true _ _ e)
-    to false e h = inr (ltb-false _ _ h)
-
-    from : (word b (place + 1) ≡ noLimit) ⊎ (d ≤ word b (place + 1)) → (not (eqb (word b (place + 1)) noLimit) && ltb (word b (place + 1)) d) ≡ false
-    from h = and-right _ _ .1 (λ q. ⊎-elim (λ e. absurd (not-eq _ _ .0 q e)) (λ l. le-ltb _ _ l) h)
-
 module _ (b p : List ℕ) (v : ℕ) (here : v < count b 0) (j : ℕ) (there : j < lineCount p v)
     (known : (i : ℕ) → suc i ≡ j → plan.valueOf p v i < valuesOf 1 b v) where
   -- 8
@@ -94,7 +77,7 @@ module _ (b p : List ℕ) (v : ℕ) (here : v < count b 0) (j : ℕ) (there : j 
       let took : plan.startOf p v j + plan.durationOf p v j - plan.startOf p v j ≡ plan.durationOf p v j = omega arith in
       let value : plan.valueOf p v j < valuesOf 1 b v = rw (is, values-length b v here) at k in
       let l = lasts-iff b v here (plan.valueOf p v j) (plan.durationOf p v j) value in
-      let o = outside-iff b (plan.valuePlace b v (plan.valueOf p v j)) (plan.durationOf p v j) in
+      let o = outside-right b (plan.valuePlace b v (plan.valueOf p v j)) (plan.durationOf p v j) in
       rw (is, took) (λ h. l .1 (o .0 h), λ h. o .1 (l .0 h))
 
   -- 10

@@ -90,8 +90,8 @@ module _ (s : List ℕ) (room : ℕ) where
           own-test (ltb k (length (rulesFor s))) 13 k 0,
           (
             own-limit (ltb 1024 (length (altsOf (rulesFor s)))) 3 _
-            (own-limit (ltb 2048 (length (namesOf (altsOf (rulesFor s))))) 4 _
-            (own-limit (ltb 2048 (length (asksOf (altsOf (rulesFor s))))) 5 _ (own-limit (ltb 16384 n) 6 noFault (inl refl)))),
+                (own-limit (ltb 2048 (length (namesOf (altsOf (rulesFor s))))) 4 _
+                (own-limit (ltb 2048 (length (asksOf (altsOf (rulesFor s))))) 5 _ (own-limit (ltb 16384 n) 6 noFault (inl refl)))),
             (own-test (ltb room n) 15 n 0, tt),
           ),
         ),
@@ -247,9 +247,14 @@ module _ (s : List ℕ) (room : ℕ) where
               λ h.
                   let q = t .0 h in
                   let w = with-book 2 s .0 (q .0) in
-                  let words = ap (λ (r : Numbers). r .a) (q .1) in
-                  (w .0, many-none .0 (w .1 .0), sizes-none .0 (w .1 .1 .0), words,
-                    subst (λ k. k ≤ room) words (room-none .0 (w .1 .1 .1 .0)), ap (λ (r : Numbers). r .b) (q .1)),
+                  let words = ap (λ (r : Numbers). r .a) (q .1) in (
+                    w .0,
+                    many-none .0 (w .1 .0),
+                    sizes-none .0 (w .1 .1 .0),
+                    words,
+                    subst (λ k. k ≤ room) words (room-none .0 (w .1 .1 .1 .0)),
+                    ap (λ (r : Numbers). r .b) (q .1),
+                  ),
               λ h.
                   let l : length (translated s) ≤ room = subst (λ k. k ≤ room) (sym (h .3)) (h .4) in
                   t .1 (with-book 2 s .1 (h .0, (many-none .1 (h .1), (sizes-none .1 (h .2), (room-none .1 l, tt)))), rw (h .3, h .5)),

@@ -11,7 +11,7 @@ use borrow.Author.Tests.{ltb-false, le-ltb}
 use Rattle.answers.specs.declared.Numbers.{Numbers}
 use Rattle.words.specs.Lists.{All, all-get}
 use Rattle.words.specs.Least.{first}
-use Rattle.book.specs.Layout.{fifthMost}
+use Rattle.layout.specs.Layout.{fifthMost}
 use Rattle.book.specs.Rules.{Atom, Constraint, Alternative, Rule, rulesOf}
 use Rattle.book.specs.Encode.{constraints}
 use Rattle.book.specs.Sound.{Sound}
@@ -26,7 +26,8 @@ relation-few : (k l r : ℕ) → length (atomsOf k l r) ≤ 3
 unfolding atomsOf
 relation-few k l r =
     all-get (λ (a : List Atom). length a ≤ 3) [] (omega arith) (relations l r) k (
-      omega arith, (omega arith, (omega arith, (omega arith, (omega arith, (omega arith, (omega arith, (omega arith, (omega arith, (omega arith, (omega arith, (omega arith, (omega arith, tt)))))))))))),
+      omega arith,
+      (omega arith, (omega arith, (omega arith, (omega arith, (omega arith, (omega arith, (omega arith, (omega arith, (omega arith, (omega arith, (omega arith, (omega arith, tt)))))))))))),
     )
 
 -- so a choice becomes at most 3 for each constraint

@@ -16,7 +16,7 @@ use Rattle.answers.specs.declared.Numbers.{Numbers}
 use Rattle.answers.specs.Numbers.{numbers, orElse}
 use Rattle.words.specs.Lists.{All}
 use Rattle.words.specs.Bytes.{fourBytes, byteWord, wordsTo, wordsOf, fileWords, bytesOfWord, bytesOf, length-bytes}
-use Rattle.book.specs.Layout.{count}
+use Rattle.layout.specs.Layout.{count}
 use Rattle.book.specs.Fault as book
 use Rattle.plan.specs.Fault as plan
 use Rattle.verdict.specs.Judged.{judged, judgedSheet}

@@ -62,13 +62,13 @@ valueBook least greatest successors =
 abbrev pub ruleBook : ℕ → ℕ → ℕ → Table → Table → Table → List ℕ
 ruleBook e variable value alternatives names fifth =
     laid e (
-      table 1 (0 ∷ 2 ∷ [])
-      ∷ table 2 (times 2 (1 ∷ N ∷ 3 ∷ []))
-      ∷ table 1 (variable ∷ value ∷ 0 ∷ alternatives .records ∷ [])
-      ∷ alternatives
-      ∷ names
-      ∷ fifth
-      ∷ []
+    table 1 (0 ∷ 2 ∷ [])
+    ∷ table 2 (times 2 (1 ∷ N ∷ 3 ∷ []))
+    ∷ table 1 (variable ∷ value ∷ 0 ∷ alternatives .records ∷ [])
+    ∷ alternatives
+    ∷ names
+    ∷ fifth
+    ∷ []
     )
 
 -- one alternative, of n names
@@ -119,13 +119,13 @@ wide values asks =
     let names : List ℕ = flatMap (λ (a : Asked). replicate (a .names) 0) asks in
     let sets : List ℕ = flatMap (λ (a : Asked). a .sets) asks in
     laid 2 (
-      table 1 (0 ∷ values ∷ [])
-      ∷ table values (times values (1 ∷ N ∷ 1 ∷ []))
-      ∷ table 1 (0 ∷ 0 ∷ 0 ∷ length asks ∷ [])
-      ∷ table (length asks) (ranges 0 0 asks)
-      ∷ table (length names) (times (length names) (0 ∷ 0 ∷ []))
-      ∷ table (length sets) (flatMap (λ (k : ℕ). 0 ∷ 0 ∷ k ∷ []) sets)
-      ∷ []
+    table 1 (0 ∷ values ∷ [])
+    ∷ table values (times values (1 ∷ N ∷ 1 ∷ []))
+    ∷ table 1 (0 ∷ 0 ∷ 0 ∷ length asks ∷ [])
+    ∷ table (length asks) (ranges 0 0 asks)
+    ∷ table (length names) (times (length names) (0 ∷ 0 ∷ []))
+    ∷ table (length sets) (flatMap (λ (k : ℕ). 0 ∷ 0 ∷ k ∷ []) sets)
+    ∷ []
     )
 
 -- so many sets of the four relations that become one atom: 0, 1, 11, 12

@@ -15,7 +15,7 @@ use Rattle.answers.specs.Numbers.{orElse}
 use Rattle.words.specs.Lists.{any, All}
 use Rattle.words.specs.Least.{first, first-none, first-some, Clear, least, least-law, least-is}
 use Rattle.words.specs.Runs.{run}
-use Rattle.book.specs.Good.{or-right}
+use Rattle.layout.proofs.Tests.{or-right}
 
 -- ---- what holds of each element
 

@@ -16,7 +16,7 @@ use Rattle.words.specs.Lists.{All}
 use Rattle.clock.specs.Clock.{noLimit}
 use Rattle.clock.proofs.Laws.{whole}
 use Rattle.book.specs.Rules.{Atom, Alternative, Rule}
-use Rattle.plan.specs.declared.Token.{Token}
+use Rattle.lines.specs.declared.Token.{Token}
 use Rattle.matching.specs.Met.{Choice, nobody, timeOf, atomHolds, met}
 use Rattle.matching.specs.Exists as exists
 use Rattle.claims.specs.Papers.{tokenOf, Evaluates, start, end, timestamp, Satisfied, On, noName, noStatement, Maps, Met}
@@ -117,9 +117,10 @@ among-on m = record { number = m .index; below = m .within; is = at-among nobody
 -- what is so of every element that is among them
 among-all : {A : Type 0} (P : A → Type 0) (xs : List A) → ((x : A) → exists.Among x xs → P x) → All P xs
 among-all P [] h = tt
-among-all P (x ∷ xs) h =
-    (h x (record { index = 0; within = omega arith; here = refl }),
-      among-all P xs (λ y m. h y (record { index = suc (m .index); within = omega (arith, m .within); here = m .here })))
+among-all P (x ∷ xs) h = (
+  h x (record { index = 0; within = omega arith; here = refl }),
+  among-all P xs (λ y m. h y (record { index = suc (m .index); within = omega (arith, m .within); here = m .here })),
+)
 
 -- and back
 all-among : {A : Type 0} (P : A → Type 0) (xs : List A) → All P xs → (x : A) → exists.Among x xs → P x

@@ -9,11 +9,11 @@ use lib.ListN.{length}
 use Rattle.answers.specs.declared.Answer.{Answer}
 use Rattle.answers.specs.Numbers.{numbersOf}
 use Rattle.book.specs.Fault.{bookFault}
-use Rattle.plan.specs.declared.Position.{Position}
-use Rattle.plan.specs.declared.Step.{Step}
-use Rattle.plan.specs.declared.Step.the-variants.{Handed, NoMore}
+use Rattle.lines.specs.declared.Position.{Position}
+use Rattle.lines.specs.declared.Step.{Step}
+use Rattle.lines.specs.declared.Step.the-variants.{Handed, NoMore}
 use Rattle.plan.specs.Fault.{planFault}
-use Rattle.plan.specs.Walk.{position, names, stepOf}
+use Rattle.lines.specs.Walk.{position, names, stepOf}
 use Rattle.verdict.specs.Judged.{judged, judgedSheet}
 use Rattle.translator.specs.Translation.{translation, roomAfter}
 use Rattle.reader.specs.declared.Opened.{Opened}

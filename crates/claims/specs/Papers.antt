@@ -13,7 +13,7 @@ use Rattle.words.specs.Words.{inSet}
 use Rattle.words.specs.Lists.{All}
 use Rattle.clock.specs.Clock.{lastTick, noLimit}
 use Rattle.book.specs.Rules.{Value, Variable, Name, Atom, Alternative, Rule}
-use Rattle.plan.specs.declared.Token.{Token}
+use Rattle.lines.specs.declared.Token.{Token}
 use Rattle.matching.specs.Met.{nobody}
 
 -- ---- 001, Definitions 1, 2 and 4: state variables, tokens, timelines, plans

@@ -14,10 +14,10 @@ use Rattle.words.specs.Least.{first-least}
 use Rattle.clock.specs.Clock.{noLimit}
 use Rattle.book.specs.Rules.{Atom, Constraint, Rule, rulesOf, variablesOf, atomAt}
 use Rattle.book.specs.Encode.{atoms, constraints}
-use Rattle.book.specs.Layout.{fifthWidth}
+use Rattle.layout.specs.Layout.{fifthWidth}
 use Rattle.book.specs.Sound.{Sound}
-use Rattle.book.specs.Inside.{alternative-ranges, name-ranges, ask-ranges}
-use Rattle.plan.specs.declared.Token.{Token}
+use Rattle.book.proofs.Inside.{alternative-ranges, name-ranges, ask-ranges}
+use Rattle.lines.specs.declared.Token.{Token}
 use Rattle.matching.specs.Met.{Choice, nobody, atomHolds, constraintHolds, met}
 use Rattle.verdict.specs.Judged.{untriggered, triggerLine, isTrigger, unmet, firstUnmet, ruleUnmet}
 use Rattle.claims.specs.Papers.{tokenOf, Plan, Satisfied, On, Met, Satisfies}

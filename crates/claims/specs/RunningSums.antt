@@ -8,9 +8,9 @@ use native.Mathlib.Decide.{decLt}
 use native.Mathlib.Omega.{arith}
 use lib.ListN.{length}
 use borrow.Author.Tests.{ne-eqb}
-use Rattle.book.specs.Layout.{count}
-use Rattle.plan.specs.Lines.{lineFirst, lineCount}
-use Rattle.plan.specs.Fault.{sumBefore}
+use Rattle.layout.specs.Layout.{count}
+use Rattle.lines.specs.Lines.{lineFirst, lineCount}
+use Rattle.lines.specs.Fault.{sumBefore}
 use Rattle.claims.specs.Wrongs.{Tables}
 
 -- how many tokens the lines before line v have, together

@@ -12,13 +12,15 @@ use Rattle.answers.specs.Numbers.{noFault, stages}
 use Rattle.words.specs.Words.{word}
 use Rattle.words.specs.Lists.{All}
 use Rattle.words.specs.Least.{Clear, least, least-law, none-below}
-use Rattle.book.specs.Layout.{count, field, valuesOf}
-use Rattle.book.specs.Good.{or-right, not-so}
+use Rattle.layout.specs.Layout.{count, field, valuesOf}
+use Rattle.layout.proofs.Tests.{or-right, not-so}
 use Rattle.book.specs.Sound.{Sound}
-use Rattle.book.specs.Inside.{in-range}
-use Rattle.plan.specs.Lines.{lineCount, linePlace, tokensFrom, lineOf}
+use Rattle.book.proofs.Inside.{in-range}
+use Rattle.lines.specs.Lines.{lineCount, linePlace, tokensFrom, lineOf, valueOf, durationOf, startOf}
 use Rattle.clock.specs.Clock.{lastTick}
-use Rattle.plan.specs.Fault.{lengthFault, headWrong, headFault, endFault, valueOf, durationOf, startOf, valuePlace, durationOutside, notSuccessor, tokenFault, tokenWrong, firstToken, lineWrong, firstLine, lineFault, tokensFault, planFault}
+use Rattle.lines.specs.Fault.{lengthFault, headWrong, headFault, endFault}
+use Rattle.plan.proofs.Good.{outside-right}
+use Rattle.plan.specs.Fault.{valuePlace, durationOutside, notSuccessor, tokenFault, tokenWrong, firstToken, lineWrong, firstLine, lineFault, tokensFault, planFault}
 use Rattle.claims.specs.Laws.{least-agree}
 use Rattle.claims.specs.Expansion.{Proper}
 
@@ -152,12 +154,12 @@ tokens-proper p (suc n) place start h =
 
 -- "durations are positive": each token of a plan without the faults 5 to 11 has a length
 pub lines-proper : {e : ℕ} {b : List ℕ} → Sound e b → (p : List ℕ) → planFault b p .number ≡ 0 → (v : ℕ) → v < count b 0 → All Proper (lineOf p v)
-unfolding lineOf durationOutside
+unfolding lineOf
 lines-proper {e} {b} s p h v l =
     tokens-proper p (lineCount p v) (linePlace p v) 0
     (λ j m.
     let r = token-right b p v j (tokens-right b p h v l j m) in
     let i : ℕ = field e b 0 v 0 + valueOf p v j in
     let some = s .values i (in-range (s .variables v l) (valueOf p v j) (r .0)) .durations .from in
-    let least = ltb-false (durationOf p v j) (word b (valuePlace b v (valueOf p v j))) (or-right _ _ .0 (r .1) .0) in
+    let least = outside-right b (valuePlace b v (valueOf p v j)) (durationOf p v j) .0 (r .1) .0 in
     omega arith)

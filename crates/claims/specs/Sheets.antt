@@ -6,7 +6,7 @@ use mathlib.Core.List.{List}
 use Prim.Native.Nat.{ℕ, _<_}
 use Rattle.words.specs.Words.{inSet}
 use Rattle.book.specs.Rules.{Constraint, Rule}
-use Rattle.plan.specs.declared.Token.{Token}
+use Rattle.lines.specs.declared.Token.{Token}
 use Rattle.claims.specs.Papers.{tokenOf, Satisfies}
 
 -- "s and e are start and end of left, s' and e' of right": they stand in the relation with this number. Allen's, as document 001 has them in

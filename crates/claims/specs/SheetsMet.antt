@@ -15,9 +15,9 @@ use Rattle.words.specs.Words.{inSet}
 use Rattle.words.specs.Lists.{All}
 use Rattle.words.specs.Runs.{length-run}
 use Rattle.clock.specs.Clock.{noLimit}
-use Rattle.book.specs.Layout.{count, offset}
+use Rattle.layout.specs.Layout.{count, offset}
 use Rattle.book.specs.Rules.{Constraint, Variable, Alternative, Rule, variableAt, variablesOf}
-use Rattle.plan.specs.declared.Token.{Token}
+use Rattle.lines.specs.declared.Token.{Token}
 use Rattle.allen.specs.Relation.{conditions, relationOf}
 use Rattle.allen.specs.One.{stands-in, relation-below}
 use Rattle.matching.specs.Met.{nobody, tokenTime, constraintHolds, met}
@@ -127,8 +127,8 @@ module _ (s : List ℕ) (lines : ℕ → List Token) (plan : Plan (variablesOf s
   mapping-proper trigger h a tokens long fine on (suc k) =
       past-proper tokens
       (λ i l.
-          let o = on i l in
-          subst Proper (o .is) (line-proper _ (all-at (NameFine 2 s) noName (a .names) .0 fine i (omega arith) .variable) (o .number)))
+      let o = on i l in
+      subst Proper (o .is) (line-proper _ (all-at (NameFine 2 s) noName (a .names) .0 fine i (omega arith) .variable) (o .number)))
       k
 
   -- a trigger token, or nobody

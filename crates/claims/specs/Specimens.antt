@@ -13,13 +13,14 @@ use Rattle.words.specs.Words.{inSet}
 use Rattle.words.specs.Least.{least, first}
 use Rattle.words.specs.Runs.{run, rows}
 use Rattle.clock.specs.Clock.{noLimit, inBounds}
-use Rattle.book.specs.Layout.{fifthWidth, fifthMost, begins, headerWrong, starts, owner}
-use Rattle.book.specs.Wrong.{setWrong, valueTests, fifthTestsOf, fifthTests, recordWrong, leaves, tableWrong}
+use Rattle.layout.specs.Layout.{fifthWidth, fifthMost, begins, headerWrong, starts, owner}
+use Rattle.records.specs.Wrong.{setWrong, valueTests, fifthTestsOf, fifthTests, recordWrong}
+use Rattle.book.specs.Fault.{leaves, tableWrong}
 use Rattle.book.specs.Fault as book
 use Rattle.book.specs.Rules.{nameAt, atomAt, constraintAt, alternativeAt, ruleAt, rulesOf}
 use Rattle.book.specs.Encode.{bookOf}
-use Rattle.book.specs.Specimen.{bookE, sheetE, same}
-use Rattle.plan.specs.Lines.{tokensFrom, lineOf}
+use Rattle.book.proofs.Specimen.{bookE, sheetE, same}
+use Rattle.lines.specs.Lines.{tokensFrom, lineOf}
 use Rattle.plan.specs.Fault as plan
 use Rattle.allen.specs.Relation.{relationOf}
 use Rattle.allen.specs.Atoms.{atomsOf}

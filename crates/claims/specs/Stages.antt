@@ -15,11 +15,12 @@ use Rattle.answers.specs.Numbers.{numbers, noFault, orElse, else-fault, else-ne
 use Rattle.words.specs.Lists.{All, all}
 use Rattle.words.specs.Least.{first}
 use Rattle.clock.specs.Clock.{lastTick}
-use Rattle.book.specs.Layout.{count, ending}
+use Rattle.layout.specs.Layout.{count, ending}
 use Rattle.book.specs.Rules.{Rule}
-use Rattle.book.specs.Wrong.{valueUnknown, lowest}
+use Rattle.records.specs.Wrong.{valueUnknown}
+use Rattle.book.specs.Fault.{lowest}
 use Rattle.book.specs.Fault as book
-use Rattle.plan.specs.declared.Token.{Token}
+use Rattle.lines.specs.declared.Token.{Token}
 use Rattle.plan.specs.Fault as plan
 use Rattle.matching.specs.Met.{Choice}
 use Rattle.verdict.specs.Judged.{ruleUnmet, rulesFault}

@@ -11,14 +11,14 @@ use lib.ListN.{length, getD}
 use Rattle.words.specs.Words.{word, inSet}
 use Rattle.words.specs.Runs.{length-run, run-at}
 use Rattle.clock.specs.Clock.{lastTick, noLimit}
-use Rattle.book.specs.Layout.{count, offset, field, valuesOf}
+use Rattle.layout.specs.Layout.{count, offset, field, valuesOf}
 use Rattle.book.specs.Sound.{Sound}
-use Rattle.book.specs.Inside.{in-range}
+use Rattle.book.proofs.Inside.{in-range}
 use Rattle.book.specs.Rules.{Variable, valueAt, variableAt, variablesOf}
-use Rattle.plan.specs.declared.Token.{Token}
-use Rattle.plan.specs.Lines.{token, lineCount, lineOf}
+use Rattle.lines.specs.declared.Token.{Token}
+use Rattle.lines.specs.Lines.{token, lineCount, lineOf}
 use Rattle.plan.specs.Fault as plan
-use Rattle.plan.specs.Laws.{line-length, line-token}
+use Rattle.lines.proofs.Laws.{line-length, line-token}
 use Rattle.plan.specs.Good.{TokenGood}
 use Rattle.matching.specs.Met.{nobody}
 use Rattle.claims.specs.Papers.{noValue, valueOf, Lasts, Follows, tokenOf, durationOf, Timeline, noVariable, Plan}

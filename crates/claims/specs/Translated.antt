@@ -12,16 +12,17 @@ use borrow.Author.Tests.{eqb-false}
 use Rattle.answers.specs.Numbers.{noFault, orElse}
 use Rattle.words.specs.Lists.{All}
 use Rattle.words.specs.Words.{word}
-use Rattle.book.specs.Layout.{count, offset, field}
+use Rattle.layout.specs.Layout.{count, offset, field}
 use Rattle.book.specs.Rules.{Constraint, Rule, rulesOf}
 use Rattle.book.specs.Encode.{atoms, constraints, header, tables, bookOf}
-use Rattle.book.specs.Back.{Says, atoms-kept, says-back, book-says}
-use Rattle.book.specs.Sound.{Sound, sound-back}
-use Rattle.book.specs.Good.{good-back}
-use Rattle.book.specs.Inside.{offsets, in-range}
+use Rattle.book.proofs.Back.{Says, atoms-kept, says-back, book-says}
+use Rattle.book.specs.Sound.{Sound}
+use Rattle.book.proofs.Sound.{sound-back}
+use Rattle.book.proofs.Good.{good-back}
+use Rattle.book.proofs.Inside.{offsets, in-range}
 use Rattle.book.specs.Fault.{bookFault}
 use Rattle.plan.specs.Fault.{planFault}
-use Rattle.plan.specs.Lines.{lineOf}
+use Rattle.lines.specs.Lines.{lineOf}
 use Rattle.verdict.specs.Judged.{judged, judgedSheet}
 use Rattle.claims.specs.Expansion.{NameBelow, RuleBelow, translate-rules}
 use Rattle.claims.specs.Decoded.{NameFine, AlternativeFine, RuleFine, ConstraintFine, sheet-rules}

@@ -12,14 +12,16 @@ use Rattle.answers.specs.Numbers.{noFault}
 use Rattle.words.specs.Words.{word}
 use Rattle.words.specs.Lists.{All}
 use Rattle.words.specs.Runs.{Stands, rows, before, rows-at, before-next, length-rows, length-flat, length-run}
-use Rattle.book.specs.Layout.{fifthWidth, fewest, most, width, count, offset, begins, recordAt, field, ends, starts, owner}
+use Rattle.layout.specs.Layout.{fifthWidth, fewest, most, width, count, offset, begins, recordAt, field, ends, starts, owner}
 use Rattle.book.specs.Rules.{Atom, Constraint, Alternative, Rule, atomAt, ruleAt, rulesOf}
 use Rattle.book.specs.Encode.{atoms, constraints, nameWords, atomWords, ruleRow, ruleNext, alternativeRow, alternativeNext, altsOf, namesOf, asksOf, bookOf}
 use Rattle.book.specs.Fault.{bookFault}
-use Rattle.book.specs.Good.{good, good-back, no-number}
-use Rattle.book.specs.Sound.{RangeSound, Exist, VariableSound, ValueSound, HeaderSound, Sound, tables, sound as soundOf, sound-back}
-use Rattle.book.specs.Back.{stood}
-use Rattle.book.specs.Inside.{Ranges, first-word, starts-next, ends-inside, owner-owns, value-ranges}
+use Rattle.book.proofs.Good.{good, good-back, no-number}
+use Rattle.book.specs.Sound.{RangeSound, Exist, VariableSound, ValueSound, HeaderSound, Sound}
+use Rattle.layout.proofs.Bounds.{tables}
+use Rattle.book.proofs.Sound.{sound as soundOf, sound-back}
+use Rattle.book.proofs.Back.{stood}
+use Rattle.book.proofs.Inside.{Ranges, first-word, starts-next, ends-inside, owner-owns, value-ranges}
 use Rattle.verdict.specs.Judged.{noRule, judged, judgedSheet}
 use Rattle.translator.specs.Expand.{translate}
 use Rattle.translator.specs.Translation.{rulesFor, translated, translation, roomAfter}
@@ -71,7 +73,7 @@ module _ {A S X : Type 0} (row : S → A → List ℕ) (step : S → A → S) (a
 
 -- such a range is sound, where its number is
 range-sound : {b : List ℕ} {t j into : ℕ} → Ranges 1 b t j into → {lo hi : ℕ} (i : ℕ) → i < count b t → lo ≤ field 1 b t i (j + 1)
-    → field 1 b t i (j + 1) ≤ hi → RangeSound 1 b t j lo hi into i
+    → field 1 b t i (j + 1) ≤ hi → RangeSound 1 b (record { table = t; word = j; least = lo; most = hi; into = into }) i
 range-sound r i l some few = record { follows = r .follows i l; some = some; few = few; inside = ends-inside r i l }
 
 -- a sheet without the faults 1 to 4 is sound

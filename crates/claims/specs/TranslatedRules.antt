@@ -12,7 +12,7 @@ use Rattle.words.specs.Words.{inSet}
 use Rattle.words.specs.Lists.{All, all-get}
 use Rattle.words.specs.Least.{Clear}
 use Rattle.words.specs.Runs.{run}
-use Rattle.book.specs.Layout.{fifthMost}
+use Rattle.layout.specs.Layout.{fifthMost}
 use Rattle.book.specs.Rules.{Atom, Constraint, Alternative, Rule}
 use Rattle.book.specs.Sound.{BoundsSound, Exist, TokenSound, TermSound}
 use Rattle.allen.specs.Relation.{thirteen}

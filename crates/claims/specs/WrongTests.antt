@@ -10,11 +10,12 @@ use lib.Dec.{ltb, eqb}
 use lib.ListN.{getD}
 use borrow.Author.Tests.{ltb-true, ltb-false, lt-ltb, le-ltb, eqb-false, eq-eqb, ne-eqb, not-true}
 use Rattle.words.specs.Least.{least, Clear, least-law, least-at, least-end}
-use Rattle.book.specs.Layout.{fewest, most, count, offset, begins, headerWrong, unused}
-use Rattle.book.specs.Wrong.{someWrong, recordTests, recordWrong, leaves, lowest, tableWrong}
-use Rattle.book.specs.Good.{or-right}
-use Rattle.plan.specs.Lines.{lineFirst, lineCount}
-use Rattle.plan.specs.Fault.{sumBefore, headWrong}
+use Rattle.layout.specs.Layout.{fewest, most, count, offset, begins, headerWrong, unused}
+use Rattle.records.specs.Wrong.{someWrong, recordTests, recordWrong}
+use Rattle.book.specs.Fault.{leaves, lowest, tableWrong}
+use Rattle.layout.proofs.Tests.{or-right}
+use Rattle.lines.specs.Lines.{lineFirst, lineCount}
+use Rattle.lines.specs.Fault.{sumBefore, headWrong}
 use Rattle.claims.specs.Wrongs.{First, None, HeaderWrong, edition, total, few, many, elsewhere, RecordWrong, Leaves, values, alternatives, names, asks, TableGood, TableBad, HeadWrong, timelines, first}
 
 -- ---- laws of tests

@@ -7,11 +7,11 @@ use mathlib.Core.List.{List}
 use Prim.Native.Nat.{ℕ, _+_, _*_, _≤_, _<_}
 use lib.ListN.{length, getD}
 use Rattle.words.specs.Words.{word}
-use Rattle.book.specs.Layout.{fewest, most, count, offset, begins, starts}
-use Rattle.book.specs.Wrong.{recordTests}
-use Rattle.plan.specs.Lines.{lineFirst, lineCount}
-use Rattle.plan.specs.Fault.{sumBefore}
-use Rattle.plan.specs.Good.{HeadGood}
+use Rattle.layout.specs.Layout.{fewest, most, count, offset, begins, starts}
+use Rattle.records.specs.Wrong.{recordTests}
+use Rattle.lines.specs.Lines.{lineFirst, lineCount}
+use Rattle.lines.specs.Fault.{sumBefore}
+use Rattle.lines.specs.Good.{HeadGood}
 
 -- ---- the first that is wrong
 

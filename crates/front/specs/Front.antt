@@ -4,11 +4,11 @@ use mathlib.Core.Bool.{Bool, true, false, cond}
 use mathlib.Core.List.{List}
 use Prim.Native.Nat.{ℕ}
 use native.Mathlib.Omega.{arith}
-use Rattle.plan.specs.declared.Token.{Token}
-use Rattle.plan.specs.declared.Position.{Position}
-use Rattle.plan.specs.Walk.{names, stepOf}
-use Rattle.plan.specs.declared.Step.{Step}
-use Rattle.plan.specs.declared.Step.the-variants.{Handed, NoMore}
+use Rattle.lines.specs.declared.Token.{Token}
+use Rattle.lines.specs.declared.Position.{Position}
+use Rattle.lines.specs.Walk.{names, stepOf}
+use Rattle.lines.specs.declared.Step.{Step}
+use Rattle.lines.specs.declared.Step.the-variants.{Handed, NoMore}
 
 -- a token was handed out: its value and end, and the next position's token number and start; no more: all four as they were
 abbrev pub Stepped : Step → ℕ → ℕ → ℕ → ℕ → ℕ → ℕ → ℕ → ℕ → Type 0

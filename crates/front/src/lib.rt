@@ -5,13 +5,13 @@ ghost use Rattle.answers.specs.Numbers.{numbersOf};
 ghost use Rattle.words.specs.Bytes.{fileWords};
 ghost use Rattle.verdict.specs.Judged.{judged, judgedSheet};
 ghost use Rattle.translator.specs.Translation.{translation, roomAfter};
-ghost use Rattle.plan.specs.Walk.{position, names, stepOf};
+ghost use Rattle.lines.specs.Walk.{position, names, stepOf};
 ghost use Rattle.reader.specs.Opening.{openFault, openAt};
 ghost use Rattle.front.specs.Front.{Stepped};
 use answers::Answer;
 use clock::Time;
-use plan::Position;
-use plan::Step;
+use lines::Position;
+use lines::Step;
 
 // The answer for the bytes of a book and a plan. A file that is too long, or no multiple of 4, is no words.
 pub fn judge(book: &[u8], plan: &[u8]) -> Answer

@@ -13,8 +13,8 @@ use borrow.Author.Tests.{ltb-true, ltb-false, eqb-true, eqb-false}
 use Rattle.words.specs.Lists.{any-same}
 use Rattle.words.specs.Runs.{run, length-run}
 use Rattle.book.specs.Rules.{Name, nameAt}
-use Rattle.plan.specs.declared.Token.{Token}
-use Rattle.plan.specs.Lines.{tokensFrom, lineOf}
+use Rattle.lines.specs.declared.Token.{Token}
+use Rattle.lines.specs.Lines.{tokensFrom, lineOf}
 use Rattle.matching.specs.Met.{Choice, put, place}
 use Rattle.matching.specs.Placed.{allHold, placeable, serving, tokenFor, Kept}
 

@@ -14,10 +14,10 @@ use Rattle.words.specs.Lists.{any, all}
 use Rattle.words.specs.Runs.{run}
 use Rattle.clock.specs.declared.Time.{Time}
 use Rattle.clock.specs.Clock.{at, noLimit, inBounds}
-use Rattle.book.specs.Layout.{fifthWidth}
+use Rattle.layout.specs.Layout.{fifthWidth}
 use Rattle.book.specs.Rules.{nameAt, atomAt, alternativeAt}
-use Rattle.plan.specs.declared.Token.{Token}
-use Rattle.plan.specs.Lines.{tokensFrom, lineOf}
+use Rattle.lines.specs.declared.Token.{Token}
+use Rattle.lines.specs.Lines.{tokensFrom, lineOf}
 use Rattle.matching.specs.declared.Tokens.{Tokens}
 use Rattle.matching.specs.declared.Alternative.{Alternative}
 use Rattle.matching.specs.Met.{Choice, put, timeOf, atomHolds, place, alternativeMet, triggered}

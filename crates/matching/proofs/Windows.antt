@@ -16,9 +16,9 @@ use Rattle.words.specs.Lists.{any, and-true, and-false, and-assoc}
 use Rattle.words.specs.Runs.{run}
 use Rattle.clock.specs.declared.Time.{Time}
 use Rattle.clock.specs.Clock.{at, noLimit, inBounds}
-use Rattle.book.specs.Layout.{fifthWidth}
+use Rattle.layout.specs.Layout.{fifthWidth}
 use Rattle.book.specs.Rules.{atomAt}
-use Rattle.plan.specs.Lines.{tokensFrom}
+use Rattle.lines.specs.Lines.{tokensFrom}
 use Rattle.matching.specs.declared.Range.{Range}
 use Rattle.matching.specs.declared.Tokens.{Tokens}
 use Rattle.matching.specs.declared.Window.{Window}

@@ -12,7 +12,7 @@ use lib.ListN.{length, getD, List·getD-eq-default}
 use borrow.Author.Tests.{eqb-true, eq-eqb}
 use Rattle.words.specs.Lists.{any, all}
 use Rattle.book.specs.Rules.{Name, Alternative, Rule}
-use Rattle.plan.specs.declared.Token.{Token}
+use Rattle.lines.specs.declared.Token.{Token}
 use Rattle.matching.specs.Met.{Choice, nobody, triggered, put, tokenTime, place, alternativeMet, met}
 
 -- ---- what is claimed

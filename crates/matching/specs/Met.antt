@@ -8,8 +8,8 @@ use Rattle.words.specs.Words.{inSet}
 use Rattle.words.specs.Lists.{any, all}
 use Rattle.clock.specs.Clock.{noLimit, inBounds}
 use Rattle.book.specs.Rules.{Name, Atom, Constraint, Alternative, Rule}
-use Rattle.plan.specs.declared.Token.{Token}
-use Rattle.plan.specs.Lines.{token}
+use Rattle.lines.specs.declared.Token.{Token}
+use Rattle.lines.specs.Lines.{token}
 use Rattle.allen.specs.Relation.{relationOf}
 
 -- what stands for a token that isn't there: the trigger of a rule without one, and the names that no token was chosen for yet

@@ -9,10 +9,10 @@ use lib.ListN.{length, getD}
 use Rattle.words.specs.Lists.{any, all}
 use Rattle.words.specs.Runs.{run}
 use Rattle.words.specs.Words.{word}
-use Rattle.book.specs.Layout.{fifthWidth, offset}
+use Rattle.layout.specs.Layout.{fifthWidth, offset}
 use Rattle.book.specs.Rules.{Fifth, nameAt, atomAt, constraintAt, alternativeAt}
-use Rattle.plan.specs.declared.Token.{Token}
-use Rattle.plan.specs.Lines.{tokensFrom, lineOf, lineCount, linePlace}
+use Rattle.lines.specs.declared.Token.{Token}
+use Rattle.lines.specs.Lines.{tokensFrom, lineOf, lineCount, linePlace}
 use Rattle.matching.specs.declared.Tokens.{Tokens}
 use Rattle.matching.specs.declared.Alternative as declared
 use Rattle.matching.specs.Met.{Choice, put, atomHolds, constraintHolds, place, alternativeMet, triggered}

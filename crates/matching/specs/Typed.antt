@@ -8,11 +8,11 @@ use lib.Dec.{eqb}
 use Rattle.words.specs.Words.{word}
 use Rattle.words.specs.Lists.{any, all, any-same}
 use Rattle.words.specs.Runs.{run, run-same}
-use Rattle.book.specs.Layout.{fifthWidth, offset}
+use Rattle.layout.specs.Layout.{fifthWidth, offset}
 use Rattle.book.specs.Rules.{Name, Alternative, Rule, Fifth, nameAt, alternativeAt, ruleAt}
 use Rattle.book.specs.Encode.{atoms, constraints}
-use Rattle.plan.specs.declared.Token.{Token}
-use Rattle.plan.specs.Lines.{lineOf}
+use Rattle.lines.specs.declared.Token.{Token}
+use Rattle.lines.specs.Lines.{lineOf}
 use Rattle.matching.specs.Met.{Choice, put, triggered, atomHolds, constraintHolds, place, alternativeMet, met}
 use Rattle.matching.specs.Placed.{places, askHolds, metAt}
 

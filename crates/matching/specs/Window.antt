@@ -8,8 +8,8 @@ use lib.Dec.{leb, ltb, eqb}
 use Rattle.words.specs.Lists.{any}
 use Rattle.clock.specs.Clock.{noLimit, inBounds}
 use Rattle.book.specs.Rules.{atomAt}
-use Rattle.plan.specs.declared.Token.{Token}
-use Rattle.plan.specs.Lines.{tokensFrom}
+use Rattle.lines.specs.declared.Token.{Token}
+use Rattle.lines.specs.Lines.{tokensFrom}
 use Rattle.matching.specs.declared.Range.{Range}
 use Rattle.matching.specs.declared.Window.{Window}
 use Rattle.matching.specs.Met.{Choice, put, timeOf, atomHolds}

@@ -5,13 +5,13 @@ ghost use Prim.Native.Nat.{ℕ, _+_, _*_, _<_, _^_};
 ghost use lib.Dec.{leb, ltb};
 ghost use lib.ListN.{getD, set, length};
 ghost use Rattle.clock.specs.Clock.{at, noLimit, inBounds};
-ghost use Rattle.book.specs.Layout.{fifthWidth, offset};
+ghost use Rattle.layout.specs.Layout.{fifthWidth, offset};
 ghost use Rattle.book.specs.Rules.{atomAt, constraintAt};
 ghost use Rattle.matching.specs.Met.{nobody, triggered, put, tokenTime, timeOf, atomHolds, constraintHolds};
 ghost use Rattle.matching.specs.Placed.{askHolds, allHold, placeable, tokenFor, metAt, Kept, tokensOf, alternativeOf};
 ghost use Rattle.matching.specs.Window.{inRange, inWindow, own, pick, asked, askedAt, Narrowed, Tells, anyFits};
 use clock::Time;
-use plan::Token;
+use lines::Token;
 use words::number_at;
 use words::word_at;
 

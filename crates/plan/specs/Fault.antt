@@ -1,69 +1,32 @@
--- Answers 5 to 11: what is wrong with a plan, given the book, row by row of the fault table. Assumes nothing.
-use mathlib.Core.Bool.{Bool, _||_, _&&_, not, cond}
+-- Answers 5 to 11: what is wrong with a plan, given the book, row by row of the fault table. Rows 5 to 7 are the lines'. Assumes nothing.
+use mathlib.Core.Bool.{Bool, _&&_, not, cond}
 use mathlib.Core.List.{List}
-use Prim.Native.Nat.{ℕ, zero, suc, _+_, _-_, _*_, _/_, _%_}
+use Prim.Native.Nat.{ℕ, _+_, _-_}
 use lib.Dec.{ltb, eqb}
-use lib.ListN.{length}
 use Rattle.answers.specs.declared.Numbers.{Numbers}
 use Rattle.answers.specs.Numbers.{numbers, noFault, orElse}
 use Rattle.words.specs.Words.{word, inSet}
 use Rattle.words.specs.Least.{least}
-use Rattle.clock.specs.Clock.{lastTick, noLimit}
-use Rattle.book.specs.Layout.{count, recordAt, field}
-use Rattle.book.specs.Wrong.{valueUnknown}
-use Rattle.plan.specs.Lines.{lineFirst, lineCount, linePlace}
-
--- 5 "plan length below 3 + 2 x variables, or above 16,384"
-unfoldable pub lengthFault : List ℕ → List ℕ → Numbers
-lengthFault b p = cond (ltb (length p) (3 + 2 * count b 0) || ltb 16384 (length p)) (numbers 5 0 0) noFault
-
--- "First tokens are running sums of the counts, from 0": what the first token of line v has to be
-unfoldable pub sumBefore : List ℕ → ℕ → ℕ
-sumBefore p v = cond (eqb v 0) 0 (lineFirst p (v - 1) + lineCount p (v - 1))
-
--- word k before the tokens is wrong: edition, total words, number of timelines, then first token and token count (0..512) of each
-unfoldable pub headWrong : List ℕ → List ℕ → ℕ → Bool
-headWrong b p k =
-    cond (eqb k 0)
-    (not (eqb (word p k) 1))
-    (cond (eqb k 1)
-    (not (eqb (word p k) (length p)))
-    (cond (eqb k 2)
-    (not (eqb (word p k) (count b 0)))
-    (cond (eqb (k % 2) 1)
-    (not (eqb (word p k) (sumBefore p ((k - 3) / 2))))
-    (ltb 512 (word p k)))))
-
--- 6 "first wrong word before the tokens"
-abbrev pub firstHead : List ℕ → List ℕ → ℕ
-firstHead b p = least (3 + 2 * count b 0) (headWrong b p)
-
-unfoldable pub headFault : List ℕ → List ℕ → Numbers
-headFault b p = cond (ltb (firstHead b p) (3 + 2 * count b 0)) (numbers 6 (firstHead b p) 0) noFault
-
--- 7 "tokens don't end at the length"
-unfoldable pub endFault : List ℕ → List ℕ → Numbers
-endFault b p = cond (eqb (3 + 2 * count b 0 + 2 * sumBefore p (count b 0)) (length p)) noFault (numbers 7 0 0)
-
--- value and duration of token j of line v, and where it starts
-abbrev pub valueOf : List ℕ → ℕ → ℕ → ℕ
-valueOf p v j = word p (linePlace p v + 2 * j)
-
-abbrev pub durationOf : List ℕ → ℕ → ℕ → ℕ
-durationOf p v j = word p (linePlace p v + 2 * j + 1)
-
-unfoldable pub startOf : List ℕ → ℕ → ℕ → ℕ
-startOf p v zero = 0
-startOf p v (suc j) = startOf p v j + durationOf p v j
+use Rattle.clock.specs.Clock.{lastTick, noLimit, inBounds}
+use Rattle.layout.specs.Layout.{count, recordAt, field}
+use Rattle.records.specs.Wrong.{valueUnknown}
+use Rattle.lines.specs.Lines.{lineFirst, lineCount}
+pub use Rattle.lines.specs.Lines.{valueOf, durationOf}
+unfoldable pub use Rattle.lines.specs.Lines.{startOf}
+pub use Rattle.lines.specs.Fault.{firstHead}
+unfoldable pub use Rattle.lines.specs.Fault.{lengthFault, sumBefore, headWrong, headFault, endFault}
 
 -- where the book has value x of variable v
 abbrev pub valuePlace : List ℕ → ℕ → ℕ → ℕ
 valuePlace b v x = recordAt 1 b 1 (field 1 b 0 v 0 + x)
 
--- "duration outside least..greatest", of the value at a place of the book
+-- "duration outside least..greatest": it is the difference between 0 and d
+abbrev pub outsideOf : ℕ → ℕ → ℕ → Bool
+outsideOf least greatest d = not (inBounds noLimit 0 d least greatest)
+
+-- of the value at a place of the book
 unfoldable pub durationOutside : List ℕ → ℕ → ℕ → Bool
-durationOutside b place d =
-    ltb d (word b place) || (not (eqb (word b (place + 1)) noLimit) && ltb (word b (place + 1)) d)
+durationOutside b place d = outsideOf (word b place) (word b (place + 1)) d
 
 -- "not a successor of the token before", whose value is at a place of the book: "Bit j of the set says that value j may follow"
 unfoldable pub notSuccessor : List ℕ → ℕ → ℕ → Bool

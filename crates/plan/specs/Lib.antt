@@ -1,8 +1,4 @@
--- The definitions that the contracts of `plan` cite, and what is proved of them.
-pub mod Lines
+-- The definitions that the contracts of `plan` cite, and what theorems about plans are said in.
 pub mod Fault
 pub mod Judge
 pub mod Good
-pub mod Laws
-pub mod Walk
-pub mod Reading

@@ -1,4 +1,4 @@
-// The layout of a plan, answers 5 to 11, and a position on one of its timelines.
+// The tokens of a plan: answers 8 to 11, behind those of its layout.
 use answers::Answer;
 use clock::Later;
 use clock::Time;
@@ -6,30 +6,9 @@ ghost use mathlib.Core.Path.{_≡_};
 ghost use Prim.Native.Nat.{_+_, _*_, _≤_, _<_, _^_};
 ghost use Rattle.answers.specs.Numbers.{numbers, numbersOf};
 ghost use lib.ListN.{length};
-ghost use Rattle.plan.specs.Lines.{lineCount, linePlace};
-ghost use Rattle.plan.specs.Fault.{sumBefore, headWrong, firstHead, firstToken, tokensFault, planFault};
-ghost use Rattle.plan.specs.Judge.{Inside, Constants, Within, valueAt, outsideOf, breaksOf, faultOf, lineNumber};
-ghost use Rattle.plan.specs.Walk.{position, stepOf};
-
-// A token of a timeline: its value, and when it starts and ends.
-pub struct Token {
-    pub value: u32,
-    pub start: Time,
-    pub end: Time,
-}
-
-// A place on a timeline: its line, the number of the next token there, and when that starts.
-pub struct Position {
-    pub line: u32,
-    pub token: u32,
-    pub start: Time,
-}
-
-// What a step gives: the token and the next position, or the position back.
-pub enum Step {
-    Handed(Token, Position),
-    NoMore(Position),
-}
+ghost use Rattle.lines.specs.Lines.{lineCount, linePlace};
+ghost use Rattle.plan.specs.Fault.{outsideOf, firstToken, tokensFault, planFault};
+ghost use Rattle.plan.specs.Judge.{Inside, Constants, Within, valueAt, breaksOf, faultOf, lineNumber};
 
 // What the tokens of a line are read by: their place and number, how many values the line's variable has, where the book has the
 // first of them, and how many of them the book wholly has.
@@ -55,60 +34,13 @@ struct Found {
     token: u32,
 }
 
-// What the first token of line v has to be: the running sum of the counts before it.
-fn sum_before(plan: &[u32], v: usize) -> usize
-    requires { ⌜ v < 2 ^ 40 ⌝ }
-    ensures { λ r. ⌜ (r ≡ sumBefore (now (plan .entry)) v) × (r < 2 ^ 33) ⌝ }
-{
-    if v == 0 {
-        return 0;
-    }
-    let first = words::number_at(plan, 3 + 2 * (v - 1));
-    let tokens = words::number_at(plan, 4 + 2 * (v - 1));
-    first + tokens
-}
-
-// Whether word k before the tokens is wrong.
-fn head_wrong(book: &[u32], plan: &[u32], k: usize) -> bool
-    requires { ⌜ k < 2 ^ 40 ⌝ }
-    ensures { λ r. ⌜ r ≡ headWrong (now (book .entry)) (now (plan .entry)) k ⌝ }
-{
-    let x = words::number_at(plan, k);
-    if k == 0 {
-        return x != 1;
-    }
-    if k == 1 {
-        return x != plan.len();
-    }
-    if k == 2 {
-        return x != words::number_at(book, 2);
-    }
-    if k % 2 == 1 {
-        return x != sum_before(plan, (k - 3) / 2);
-    }
-    x > 512
-}
-
-// The first wrong word before the tokens, or where the tokens begin.
-fn first_head(book: &[u32], plan: &[u32]) -> usize
-    ensures { λ r. ⌜ r ≡ firstHead (now (book .entry)) (now (plan .entry)) ⌝ }
-{
-    let n = 3 + 2 * words::number_at(book, 2);
-    let mut k = 0;
-    while k < n {
-        if head_wrong(book, plan, k) {
-            return k;
-        }
-        k += 1;
-    }
-    k
-}
-
-// Whether a duration is outside the bounds of its value.
+// Whether a duration, which is a difference from 0, is outside the bounds of its value.
 fn outside(least: u32, greatest: u32, d: u32) -> bool
     ensures { λ r. ⌜ r ≡ outsideOf least greatest d ⌝ }
 {
-    (d < least) | ((greatest != Time::NO_LIMIT) & (greatest < d))
+    let none = Time { tick: 0 };
+    let all = Time { tick: d as u64 };
+    !none.in_bounds(all, least, greatest)
 }
 
 // Whether a value may not stand where it does: any may stand first, and later those in the set of the token before.
@@ -121,9 +53,9 @@ fn breaks(first: bool, set: u32, x: u32) -> bool
     !words::in_set(set, x)
 }
 
-// What is wrong with a token: 8, 9, 10 or 11, in this order, or 0.
-fn token_fault(value: Value, x: u32, d: u32, first: bool, set: u32, end: u64) -> u32
-    ensures { λ r. ⌜ r ≡ faultOf value x d first set end ⌝ }
+// What is wrong with a token but for its end: 8, 9 or 10, in this order, or 0.
+fn token_fault(value: Value, x: u32, d: u32, first: bool, set: u32) -> u32
+    ensures { λ r. ⌜ r ≡ faultOf value x d first set ⌝ }
 {
     if value.unknown {
         return 8;
@@ -133,9 +65,6 @@ fn token_fault(value: Value, x: u32, d: u32, first: bool, set: u32, end: u64) ->
     }
     if breaks(first, set, x) {
         return 10;
-    }
-    if end > Time::LAST_TICK {
-        return 11;
     }
     0
 }
@@ -207,18 +136,24 @@ fn line_fault(book: &[u32], plan: &[u32], v: usize) -> Found
     let place = line.place;
     let tokens = line.tokens;
     let mut j: u32 = 0;
-    let mut start: u64 = 0;
+    let mut start = Time { tick: 0 };
     let mut set: u32 = 0;
     while j < tokens {
         let at = place + 2 * (j as usize);
         let x = plan[at];
         let d = plan[at + 1];
         let value = value_of(book, line, x);
-        let end = start + d as u64;
-        let number = token_fault(value, x, d, j == 0, set, end);
+        let number = token_fault(value, x, d, j == 0, set);
         if number != 0 {
             return Found { number, token: j };
         }
+        let later = start.plus(d);
+        let Later::At(end) = later else {
+            return Found {
+                number: 11,
+                token: j,
+            };
+        };
         start = end;
         set = value.next;
         j += 1;
@@ -263,85 +198,13 @@ fn check_tokens(book: &[u32], plan: &[u32]) -> Answer
     Answer::Done { a: 0, b: 0 }
 }
 
-// What is wrong with the plan, given the book.
+// What is wrong with the plan, given the book: the first of answers 5 to 11 that fits, or no fault.
 pub fn check(book: &[u32], plan: &[u32]) -> Answer
     ensures { λ r. ⌜ numbersOf r ≡ planFault (now (book .entry)) (now (plan .entry)) ⌝ }
 {
-    let n = words::number_at(book, 2);
-    let start = 3 + 2 * n;
-    let length = plan.len();
-    if (length < start) | (length > 16384) {
-        return Answer::PlanLength;
-    }
-    let k = first_head(book, plan);
-    if k < start {
-        return Answer::PlanHeader { word: k as u32 };
-    }
-    let sum = sum_before(plan, n);
-    if start + 2 * sum != length {
-        return Answer::PlanEnd;
+    let first = lines::check(book, plan);
+    if answers::numbers_of(first).number != 0 {
+        return first;
     }
     check_tokens(book, plan)
-}
-
-impl Position {
-    // The first token of a line.
-    pub fn at_start(line: u32) -> Position
-        ensures { λ r. ⌜ r ≡ position line 0 0 ⌝ }
-    {
-        Position {
-            line,
-            token: 0,
-            start: Time { tick: 0 },
-        }
-    }
-
-    // A position that names no token.
-    pub fn nowhere(line: u32) -> Position
-        ensures { λ r. ⌜ r ≡ position line 4294967295 0 ⌝ }
-    {
-        Position {
-            line,
-            token: 4294967295,
-            start: Time { tick: 0 },
-        }
-    }
-
-    // The token that the position names, with the next position; or no more, and the position back.
-    pub fn step(self, plan: &[u32]) -> Step
-        ensures { λ r. ⌜ r ≡ stepOf (now (plan .entry)) self ⌝ }
-    {
-        let line = self.line;
-        let number = self.token;
-        let start = self.start;
-        let l = line as usize;
-        let k = number as usize;
-        let lines = words::number_at(plan, 2);
-        if lines <= l {
-            return Step::NoMore(self);
-        }
-        let tokens = words::number_at(plan, 4 + 2 * l);
-        if tokens <= k {
-            return Step::NoMore(self);
-        }
-        let at = 3 + 2 * lines + 2 * words::number_at(plan, 3 + 2 * l) + 2 * k;
-        if plan.len() <= at + 1 {
-            return Step::NoMore(self);
-        }
-        match start.plus(words::word_at(plan, at + 1)) {
-            Later::Past => Step::NoMore(self),
-            Later::At(end) => Step::Handed(
-                Token {
-                    value: words::word_at(plan, at),
-                    start,
-                    end,
-                },
-                Position {
-                    line,
-                    token: number + 1,
-                    start: end,
-                },
-            ),
-        }
-    }
 }

@@ -6,11 +6,11 @@ use Prim.Native.Nat.{ℕ, _≤_, _<_}
 use native.Mathlib.Omega.{arith}
 use Rattle.answers.specs.declared.Numbers.{Numbers}
 use Rattle.answers.specs.Numbers.{numbers, noFault}
-use Rattle.book.specs.Layout.{count}
+use Rattle.layout.specs.Layout.{count}
 use Rattle.book.specs.Fault.{bookFault}
-use Rattle.plan.specs.declared.Position.{Position}
+use Rattle.lines.specs.declared.Position.{Position}
 use Rattle.plan.specs.Fault.{planFault}
-use Rattle.plan.specs.Walk.{position}
+use Rattle.lines.specs.Walk.{position}
 use Rattle.reader.specs.Opening.{openFault, openAt, opened-at, refused-at, good-opened, book-refused, plan-refused, line-refused}
 
 -- what the contract says

@@ -5,14 +5,16 @@ use Prim.Native.Nat.{ℕ, zero, suc, _^_, _≤_, _<_}
 use native.Mathlib.Omega.{arith}
 use lib.ListN.{length}
 use Rattle.words.specs.Words.{word}
-use Rattle.plan.specs.declared.Position.{Position}
-use Rattle.plan.specs.declared.Step.{Step}
-use Rattle.plan.specs.declared.Step.the-variants.{Handed, NoMore}
-use Rattle.plan.specs.Lines.{lineCount, lineOf}
-use Rattle.plan.specs.Good.{plan-good, no-number}
-use Rattle.plan.specs.Laws.{line-length}
-use Rattle.plan.specs.Walk.{stepOf}
-use Rattle.plan.specs.Reading.{handsOut, handed, for-ever, handed-line, nowhere-none}
+use Rattle.lines.specs.declared.Position.{Position}
+use Rattle.lines.specs.declared.Step.{Step}
+use Rattle.lines.specs.declared.Step.the-variants.{Handed, NoMore}
+use Rattle.lines.specs.Lines.{lineCount, lineOf}
+use Rattle.plan.proofs.Good.{plan-good, no-number}
+use Rattle.lines.proofs.Laws.{line-length}
+use Rattle.lines.specs.Walk.{stepOf}
+use Rattle.lines.specs.Reading.{handsOut, handed}
+use Rattle.lines.proofs.Reading.{for-ever, nowhere-none}
+use Rattle.plan.proofs.Reading.{handed-line}
 use Rattle.reader.specs.Opening.{openFault, openAt, opened-at, refused-at, opened-good}
 
 -- "each step gives back the next position"

@@ -8,11 +8,11 @@ use borrow.Author.Tests.{ltb-true, lt-ltb, le-ltb, eq-eqb, ne-eqb}
 use Rattle.answers.specs.declared.Numbers.{Numbers}
 use Rattle.answers.specs.Numbers.{numbers, noFault, orElse, else-fault, else-next, stages, held}
 use Rattle.clock.specs.Clock.{noLimit}
-use Rattle.book.specs.Layout.{count}
+use Rattle.layout.specs.Layout.{count}
 use Rattle.book.specs.Fault.{bookFault}
-use Rattle.plan.specs.declared.Position.{Position}
+use Rattle.lines.specs.declared.Position.{Position}
 use Rattle.plan.specs.Fault.{planFault}
-use Rattle.plan.specs.Walk.{position}
+use Rattle.lines.specs.Walk.{position}
 
 -- "17 if the timeline number is not below the number of variables"
 unfoldable pub lineFault : List ℕ → ℕ → Numbers

@@ -1,10 +1,10 @@
 // A reader over one timeline of a lent plan: opening it, and its steps.
 use answers::Answer;
-use plan::Position;
-use plan::Step;
+use lines::Position;
+use lines::Step;
 ghost use mathlib.Core.Path.{_≡_};
 ghost use Rattle.answers.specs.Numbers.{numbersOf};
-ghost use Rattle.plan.specs.Walk.{stepOf};
+ghost use Rattle.lines.specs.Walk.{stepOf};
 ghost use Rattle.reader.specs.Opening.{openFault, openAt};
 
 // What opening gives: the answer, and where the reader stands.

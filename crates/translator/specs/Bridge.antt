@@ -10,7 +10,7 @@ use lib.Dec.{lit<}
 use Rattle.words.specs.Words.{word, inSet}
 use Rattle.words.specs.Runs.{run}
 use Rattle.words.specs.Lists.{All}
-use Rattle.book.specs.Layout.{count, offset}
+use Rattle.layout.specs.Layout.{count, offset}
 use Rattle.book.specs.Rules.{constraintAt, alternativeAt, ruleAt, rulesOf}
 use Rattle.book.specs.Encode.{constraints, altsOf}
 use Rattle.allen.specs.Relation.{thirteen}

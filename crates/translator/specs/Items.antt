@@ -11,7 +11,7 @@ use lib.Dec.{lit<}
 use lib.ListN.{drop, drop-of-length-le}
 use Rattle.words.specs.Words.{word, inSet}
 use Rattle.words.specs.Runs.{run}
-use Rattle.book.specs.Layout.{count, offset}
+use Rattle.layout.specs.Layout.{count, offset}
 use Rattle.book.specs.Rules.{Atom, Name, Alternative, Rule, nameAt}
 use Rattle.allen.specs.Relation.{thirteen}
 use Rattle.allen.specs.Atoms.{atomsOf}

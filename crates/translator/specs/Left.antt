@@ -13,7 +13,7 @@ use Rattle.words.specs.Words.{word}
 use Rattle.words.specs.Lists.{any}
 use Rattle.words.specs.Least.{first}
 use Rattle.words.specs.Runs.{run, rows, length-run, run-at}
-use Rattle.book.specs.Layout.{count, offset}
+use Rattle.layout.specs.Layout.{count, offset}
 use Rattle.book.specs.Rules.{Atom, Alternative, nameAt}
 use Rattle.book.specs.Encode.{nameWords, atomWords, alternativeRows, ruleRows, namesOf, asksOf}
 use Rattle.allen.specs.Atoms.{atomsOf}

@@ -11,7 +11,7 @@ use Rattle.words.specs.Words.{word}
 use Rattle.words.specs.Runs.{run}
 use Rattle.words.specs.Least.{first}
 use Rattle.words.specs.Write.{Wrote}
-use Rattle.book.specs.Layout.{count, offset}
+use Rattle.layout.specs.Layout.{count, offset}
 use Rattle.translator.specs.Translation.{tooMany}
 use Rattle.translator.specs.Going.{gather, gather-all, gather-more, run-all, run-more, run-none, seek-start, upTo}
 use Rattle.translator.specs.Items.{itemsFrom, itemsAt, ruleItems, allItems, altOf, ruleFor, rulesBy}

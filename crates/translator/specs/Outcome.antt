@@ -12,12 +12,13 @@ use Rattle.answers.specs.declared.Numbers.{Numbers}
 use Rattle.answers.specs.Numbers.{numbers, noFault, orElse, else-fault, else-next}
 use Rattle.words.specs.Least.{first}
 use Rattle.words.specs.Write.{Wrote, puts-eq}
-use Rattle.book.specs.Layout.{count}
+use Rattle.layout.specs.Layout.{count}
 use Rattle.book.specs.Rules.{Atom, Rule}
 use Rattle.book.specs.Encode.{altsOf, namesOf, asksOf}
 use Rattle.book.specs.Fault.{bookFault}
-use Rattle.book.specs.Good.{good, no-number}
-use Rattle.book.specs.Sound.{Sound, sound}
+use Rattle.book.proofs.Good.{good, no-number}
+use Rattle.book.specs.Sound.{Sound}
+use Rattle.book.proofs.Sound.{sound}
 use Rattle.translator.specs.Translation.{rulesFor, translated, tooMany, tooWide, ruleFault, sizeFault, roomFault, translation, roomAfter}
 use Rattle.translator.specs.Items.{rulesBy}
 use Rattle.translator.specs.Listed.{Fits, ListedIs}

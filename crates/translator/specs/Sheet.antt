@@ -4,9 +4,9 @@ use Prim.Native.Nat.{ℕ, _+_, _*_, _≤_, _<_}
 use native.Mathlib.Omega.{arith}
 use mathlib.Core.List.{List}
 use Rattle.words.specs.Words.{word}
-use Rattle.book.specs.Layout.{count, offset, fifthMost}
+use Rattle.layout.specs.Layout.{count, offset, fifthMost}
 use Rattle.book.specs.Sound.{Sound}
-use Rattle.book.specs.Inside.{offsets}
+use Rattle.book.proofs.Inside.{offsets}
 use Rattle.translator.specs.Listed.{RuleFits, Fits}
 
 pub sheet-fits : (s : List ℕ) → Sound 2 s → Fits s

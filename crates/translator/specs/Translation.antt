@@ -8,7 +8,7 @@ use Rattle.answers.specs.declared.Numbers.{Numbers}
 use Rattle.answers.specs.Numbers.{numbers, noFault, orElse}
 use Rattle.words.specs.Least.{first}
 use Rattle.words.specs.Lists.{any}
-use Rattle.book.specs.Layout.{count, offset, width, most}
+use Rattle.layout.specs.Layout.{count, offset, width, most}
 use Rattle.book.specs.Rules.{Atom, Alternative, Rule, rulesOf}
 use Rattle.book.specs.Encode.{atoms, constraints, altsOf, namesOf, asksOf, bookOf}
 use Rattle.book.specs.Fault.{bookFault}

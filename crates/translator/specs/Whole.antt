@@ -7,11 +7,11 @@ use lib.ListN.{length, take, drop, length-append, length-drop, length-map}
 use lib.Seq.{take-add, drop-drop, length-take-le}
 use Rattle.words.specs.Write.{Has}
 use Rattle.words.specs.Runs.{run, length-run, length-rows, length-flat}
-use Rattle.book.specs.Layout.{count, offset}
+use Rattle.layout.specs.Layout.{count, offset}
 use Rattle.book.specs.Rules.{Atom, Alternative, Rule}
 use Rattle.book.specs.Encode.{atoms, altsOf, namesOf, asksOf, nameWords, atomWords, ruleRows, ruleRow, ruleNext, alternativeRows, alternativeRow, alternativeNext, bookOf}
 use Rattle.book.specs.Sound.{Sound}
-use Rattle.book.specs.Inside.{offsets}
+use Rattle.book.proofs.Inside.{offsets}
 use Rattle.translator.specs.Translation.{rulesFor, tableWords, translated}
 use Rattle.translator.specs.Going.{run-all}
 use Rattle.translator.specs.Items.{ruleFor, rulesBy, allItems, altOf}

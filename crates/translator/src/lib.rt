@@ -7,7 +7,7 @@ ghost use Rattle.words.specs.Words.{word};
 ghost use Rattle.answers.specs.Numbers.{numbersOf};
 ghost use Rattle.words.specs.Least.{first};
 ghost use Rattle.words.specs.Write.{Wrote, Has};
-ghost use Rattle.book.specs.Layout.{count, offset};
+ghost use Rattle.layout.specs.Layout.{count, offset};
 ghost use Rattle.translator.specs.Going.{gather, upTo};
 ghost use Rattle.translator.specs.Items.{itemsFrom, itemsAt, allItems, altOf, rulesBy, Digits};
 ghost use Rattle.translator.specs.Listed.{Fits, ListedIs, sizesFrom};

@@ -13,16 +13,17 @@ use borrow.Author.Tests.{eq-eqb}
 use Rattle.words.specs.Words.{word}
 use Rattle.words.specs.Runs.{run}
 use Rattle.clock.specs.Clock.{noLimit}
-use Rattle.book.specs.Layout.{count, offset}
+use Rattle.layout.specs.Layout.{count, offset}
 use Rattle.book.specs.Fault.{bookFault}
-use Rattle.book.specs.Good.{good, no-number}
-use Rattle.book.specs.Sound.{Sound, sound}
+use Rattle.book.proofs.Good.{good, no-number}
+use Rattle.book.specs.Sound.{Sound}
+use Rattle.book.proofs.Sound.{sound}
 use Rattle.book.specs.Rules.{Rule, ruleAt, rulesOf}
-use Rattle.plan.specs.declared.Token.{Token}
-use Rattle.plan.specs.Lines.{lineCount, lineOf}
+use Rattle.lines.specs.declared.Token.{Token}
+use Rattle.lines.specs.Lines.{lineCount, lineOf}
 use Rattle.plan.specs.Fault.{planFault}
-use Rattle.plan.specs.Laws.{line-length}
-use Rattle.plan.specs.Good.{plan-good, no-number as plan-no-number}
+use Rattle.lines.proofs.Laws.{line-length}
+use Rattle.plan.proofs.Good.{plan-good, no-number as plan-no-number}
 use Rattle.matching.specs.Met.{nobody}
 use Rattle.verdict.specs.Judged.{counted, triggerLine, isTrigger, examined}
 use Rattle.verdict.specs.Survey.{placedRule, placedRules}

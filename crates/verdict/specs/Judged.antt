@@ -11,8 +11,8 @@ use Rattle.clock.specs.Clock.{noLimit}
 use Rattle.book.specs.Rules.{Rule, rulesOf}
 use Rattle.book.specs.Encode.{atoms, constraints}
 use Rattle.book.specs.Fault.{bookFault}
-use Rattle.plan.specs.declared.Token.{Token}
-use Rattle.plan.specs.Lines.{lineOf}
+use Rattle.lines.specs.declared.Token.{Token}
+use Rattle.lines.specs.Lines.{lineOf}
 use Rattle.plan.specs.Fault.{planFault}
 use Rattle.matching.specs.Met.{Choice, nobody, atomHolds, constraintHolds, met}
 

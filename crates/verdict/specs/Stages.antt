@@ -6,7 +6,7 @@ use Prim.Native.Nat.{ℕ, _^_, _<_}
 use Rattle.answers.specs.declared.Numbers.{Numbers}
 use Rattle.answers.specs.Numbers.{else-fault, else-next}
 use Rattle.book.specs.Fault.{bookFault}
-use Rattle.plan.specs.Lines.{lineOf}
+use Rattle.lines.specs.Lines.{lineOf}
 use Rattle.plan.specs.Fault.{planFault}
 use Rattle.verdict.specs.Judged.{examined}
 use Rattle.verdict.specs.Survey.{placedRules, placedFault, judgedBy}

@@ -14,10 +14,10 @@ use Rattle.words.specs.Least.{first}
 use Rattle.words.specs.Runs.{run}
 use Rattle.clock.specs.Clock.{noLimit}
 use Rattle.answers.specs.Numbers.{numbers}
-use Rattle.book.specs.Layout.{count, offset}
+use Rattle.layout.specs.Layout.{count, offset}
 use Rattle.book.specs.Rules.{ruleAt, rulesOf}
-use Rattle.plan.specs.declared.Token.{Token}
-use Rattle.plan.specs.Lines.{token as plan-token, lineFirst, lineCount, tokensFrom, lineOf}
+use Rattle.lines.specs.declared.Token.{Token}
+use Rattle.lines.specs.Lines.{token as plan-token, lineFirst, lineCount, tokensFrom, lineOf}
 use Rattle.matching.specs.Met.{nobody, met}
 use Rattle.matching.specs.Placed.{askHolds, metAt}
 use Rattle.verdict.specs.declared.Tally.{Tally}

@@ -8,7 +8,7 @@ use Rattle.answers.specs.declared.Numbers.{Numbers}
 use Rattle.answers.specs.Numbers.{orElse}
 use Rattle.book.specs.Rules.{Rule, ruleAt, rulesOf}
 use Rattle.book.specs.Fault.{bookFault}
-use Rattle.plan.specs.Lines.{lineOf}
+use Rattle.lines.specs.Lines.{lineOf}
 use Rattle.plan.specs.Fault.{planFault}
 use Rattle.matching.specs.Placed.{places, askHolds}
 use Rattle.verdict.specs.declared.Tally.{Tally}

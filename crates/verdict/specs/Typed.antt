@@ -8,11 +8,11 @@ use lib.ListN.{getD}
 use Rattle.words.specs.Least.{first}
 use Rattle.words.specs.Lists.{any}
 use Rattle.words.specs.Runs.{run, length-run}
-use Rattle.book.specs.Layout.{count, offset}
+use Rattle.layout.specs.Layout.{count, offset}
 use Rattle.book.specs.Rules.{Fifth, ruleAt, rulesOf}
 use Rattle.book.specs.Encode.{atoms, constraints}
-use Rattle.plan.specs.declared.Token.{Token}
-use Rattle.plan.specs.Lines.{lineOf}
+use Rattle.lines.specs.declared.Token.{Token}
+use Rattle.lines.specs.Lines.{lineOf}
 use Rattle.matching.specs.Met.{Choice, atomHolds, constraintHolds, met}
 use Rattle.matching.specs.Placed.{askHolds}
 use Rattle.matching.specs.Typed.{Reads, met-same, book-reads, sheet-reads}

@@ -4,12 +4,12 @@ ghost use Prim.Native.Nat.{_+_, _*_, _<_, _^_};
 ghost use Rattle.words.specs.Words.{word};
 ghost use Rattle.clock.specs.Clock.{noLimit};
 ghost use Rattle.answers.specs.Numbers.{numbersOf};
-ghost use Rattle.plan.specs.Lines.{lineOf};
+ghost use Rattle.lines.specs.Lines.{lineOf};
 ghost use Rattle.verdict.specs.Judged.{examined, judged, judgedSheet};
 ghost use Rattle.verdict.specs.Survey.{Surveyed, placedRules, placedFault, judgedBy};
 use answers::Answer;
 use clock::Time;
-use plan::Token;
+use lines::Token;
 use words::number_at;
 use words::word_at;
 

@@ -3,8 +3,8 @@ use Prim.Native.Nat.{_-_, _≤_}
 use native.Mathlib.Omega.{arith}
 use borrow.Author.Needs.{needs}
 use Rattle.words.specs.Least.{Clear, clear-more, least-at, scan}
-use Rattle.book.specs.Wrong.{recordWrong}
-use Rattle.book.proofs.Bounds.{scaled, placed}
+use Rattle.records.specs.Wrong.{recordWrong}
+use Rattle.layout.proofs.Bounds.{scaled, placed}
 use Rattle.book.proofs.first_plain.Statement.{statement}
 use Rattle.book.proofs.first_plain.Tie as tie
 

@@ -3,7 +3,7 @@ use Prim.Native.Nat.{_-_, _≤_}
 use native.Mathlib.Omega.{arith}
 use borrow.Author.Needs.{needs}
 use Rattle.words.specs.Least.{Clear, least-at, scan}
-use Rattle.book.specs.Wrong.{tableWrong}
+use Rattle.book.specs.Fault.{tableWrong}
 use Rattle.book.proofs.first_table.Statement.{statement}
 use Rattle.book.proofs.first_table.Tie as tie
 

@@ -5,9 +5,10 @@ use Prim.Native.Nat.{_-_, _≤_}
 use native.Mathlib.Omega.{arith}
 use borrow.Author.Needs.{needs}
 use Rattle.words.specs.Least.{Clear, clear-more, least-at, scan}
-use Rattle.book.specs.Wrong.{recordWrong}
-use Rattle.book.specs.Owner.{Cursor, cursors}
-use Rattle.book.proofs.Bounds.{placed}
+use Rattle.records.specs.Wrong.{recordWrong}
+use Rattle.layout.specs.Owner.{Cursor}
+use Rattle.layout.proofs.Owner.{cursors}
+use Rattle.layout.proofs.Bounds.{placed}
 use Rattle.book.proofs.first_value.Statement.{statement}
 use Rattle.book.proofs.first_value.Tie as tie
 

@@ -5,7 +5,7 @@ use mathlib.Core.List.{List}
 use Prim.Native.Nat.{ℕ, zero, suc}
 use native.Mathlib.Omega.{arith}
 use borrow.Author.Needs.{needs}
-use Rattle.book.specs.Wrong.{leaves}
+use Rattle.book.specs.Fault.{leaves}
 use Rattle.book.proofs.leaves_of.Statement.{statement}
 use Rattle.book.proofs.leaves_of.Tie as tie
 

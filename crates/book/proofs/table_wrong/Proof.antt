@@ -1,6 +1,6 @@
 -- `book::table_wrong` meets its contract, by computation from its two tests. Assumes nothing.
 use borrow.Author.Needs.{needs}
-use Rattle.book.specs.Wrong.{tableWrong}
+use Rattle.book.specs.Fault.{tableWrong}
 use Rattle.book.proofs.table_wrong.Statement.{statement}
 use Rattle.book.proofs.table_wrong.Tie as tie
 

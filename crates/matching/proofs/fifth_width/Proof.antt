@@ -1,7 +1,7 @@
 -- `matching::fifth_width` meets its contract: the definition's own two cases. Assumes nothing.
 use native.Mathlib.Omega.{arith}
 use borrow.Author.Tests.{eq-eqb, ne-eqb}
-use Rattle.book.specs.Layout.{fifthWidth}
+use Rattle.layout.specs.Layout.{fifthWidth}
 use Rattle.matching.proofs.fifth_width.Statement.{statement}
 use Rattle.matching.proofs.fifth_width.Tie as tie
 

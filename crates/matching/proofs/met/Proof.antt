@@ -7,7 +7,7 @@ use mathlib.Core.Logic.{⊎-elim}
 use Prim.Native.Nat.{_+_, _*_, _^_, _<_, _≤_}
 use native.Mathlib.Omega.{arith}
 use borrow.Author.Needs.{needs}
-use Rattle.book.specs.Layout.{offset}
+use Rattle.layout.specs.Layout.{offset}
 use Rattle.matching.specs.Met.{triggered}
 use Rattle.matching.specs.Placed.{tokenFor, metAt}
 use Rattle.matching.proofs.Laws.{token-none, token-hit, token-skip, token-miss, token-next, metHere, alt-placed, alt-named, alt-none, alt-step}

@@ -1,56 +1,24 @@
--- `plan::check` meets its contract: each return's tests say which stage of the fault table it is. Assumes nothing.
+-- `plan::check` meets its contract, stage by stage: the tokens are tested where the lines have no fault. Assumes nothing.
 use mathlib.Core.Path.{_∙_}
-use native.Mathlib.Omega.{arith}
 use borrow.Author.Needs.{needs}
-use Rattle.plan.proofs.Laws.{fault-length, head-small, fault-head, fault-end, tokens-within, fault-tokens}
+use Rattle.plan.proofs.Stages.{lines-first, tokens-within, tokens-next}
 use Rattle.plan.proofs.check.Statement.{statement}
 use Rattle.plan.proofs.check.Tie as tie
 
 returns : tie.Need-returns
-returns c = fault-length _ _ _ (omega arith) (c .if1 .taken)
-
-cast-t12 : tie.Need-cast-t12
-cast-t12 c =
-    let head = c .before in
-    let a = head .before .before .before .before .before .args in
-    record { fits = head-small (a .book .now) (a .plan .now) _ (omega arith) (head .before .if1 .left) _ (head .first-head .ensures) (c .if2 .taken) }
-
-returns-2 : tie.Need-returns-2
-returns-2 c =
-    let head = c .before in
-    fault-head _ _ _ (omega arith) (head .before .if1 .left) _ (head .first-head .ensures) (c .if2 .taken)
-
-returns-3 : tie.Need-returns-3
-returns-3 c =
-    let head = c .before .before .before in
-    fault-end _ _ _ (omega arith) (head .before .if1 .left) _ (head .first-head .ensures) (c .before .before .if2 .left) _ (cc) (c .if3 .taken)
+returns c =
+    let n = c .before .before in
+    lines-first _ _ _ _ (n .before .check .ensures) (n .numbers-of .ensures) (c .if1 .taken)
 
 check-tokens-requires : tie.Need-check-tokens-requires
 check-tokens-requires c κs =
-    let head = c .before .before .before in
-    let a = head .before .before .before .before .before .args in
-    tokens-within (a .book .now) (a .plan .now) _ (omega arith) (head .before .if1 .left) _ (head .first-head .ensures) (c .before .before .if2 .left) _ (cc) (c .if3 .left)
+    let n = c .before .before in
+    tokens-within _ _ _ _ (n .before .check .ensures) (n .numbers-of .ensures) (c .if1 .left)
 
-returns-4 : tie.Need-returns-4
-returns-4 c =
-    let head = c .before .before .before .before in
-    c .check-tokens .ensures
-    ∙ fault-tokens _ _ _ (omega arith) (head .before .if1 .left) _ (head .first-head .ensures) (c .before .before .before .if2 .left) _ (cc) (c .before .if3 .left)
+returns-2 : tie.Need-returns-2
+returns-2 c =
+    let n = c .before .before .before in
+    c .check-tokens .ensures ∙ tokens-next _ _ _ _ (n .before .check .ensures) (n .numbers-of .ensures) (c .before .if1 .left)
 
 pub check-spec : {M : Type 1} → statement M
-check-spec =
-    tie.close
-    (tie.spec
-    (λ c κs. search needs)
-    (λ c. search needs)
-    (λ c. search needs)
-    returns
-    (λ c κs. search needs)
-    cast-t12
-    returns-2
-    (λ c κs. search needs)
-    (λ c. search needs)
-    (λ c. search needs)
-    returns-3
-    check-tokens-requires
-    returns-4)
+check-spec = tie.close (tie.spec (λ c κs. search needs) (λ c κs. search needs) returns check-tokens-requires returns-2)

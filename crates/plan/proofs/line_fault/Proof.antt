@@ -1,29 +1,19 @@
 -- `plan::line_fault` meets its contract. The loop's invariant: j is at most the count, and `Along` before token j: no token passed is
--- faulty, `start` is the sum of their durations, at most the last tick, and `set` is the successor set of the last one. Assumes nothing.
-use mathlib.Core.Path.{refl}
-use Prim.Native.Nat.{_+_, _-_, _*_, _≤_}
+-- faulty, `start` is the sum of their durations, and `set` is the successor set of the last one. Assumes nothing.
+use mathlib.Core.Path.{refl, sym, _∙_}
+use Prim.Native.Nat.{_-_, _≤_}
 use native.Mathlib.Omega.{arith}
 use borrow.Author.Needs.{needs}
 use Rattle.plan.specs.Judge.{Along}
-use Rattle.plan.proofs.Laws.{read, along-none, along-more, faulty, faultless}
+use Rattle.plan.proofs.Laws.{read, along-none, along-more, faulty, past, faultless}
 use Rattle.plan.proofs.line_fault.Statement.{statement}
 use Rattle.plan.proofs.line_fault.Tie as tie
 
 abbrev Inv-loop : tie.InvT-loop
-Inv-loop book plan v line place tokens j₀ start₀ set₀ j start set = (j ≤ tokens) × Along book plan v j start set
+Inv-loop book plan v line place tokens j₀ start₀ set₀ j start set = (j ≤ tokens) × Along book plan v j (start .tick) set
 
 abbrev μ-loop : tie.MeasureT-loop
 μ-loop book plan v line place tokens j₀ start₀ set₀ j start set = tokens - j
-
-cast-end : tie.Need-cast-end Inv-loop μ-loop
-cast-end c =
-    let loop = c .before .before .before .before in
-    omega (arith, c .before .shared-slice-known4 .given (loop .before .line-of .result .place + 2 * loop .loop .j + 1))
-
-add-end : tie.Need-add-end Inv-loop μ-loop
-add-end c =
-    let loop = c .before .before .before .before in
-    omega (arith, loop .loop .inv .1 .soon, c .before .shared-slice-known4 .given (loop .before .line-of .result .place + 2 * loop .loop .j + 1))
 
 returns : tie.Need-returns Inv-loop μ-loop
 returns c =
@@ -35,18 +25,32 @@ returns c =
     let token = read _ _ _ _ line _ _ _ along _ _ _ _ refl refl (t .before .value-of .ensures) (t .token-fault .ensures) in
     faulty _ _ _ _ _ _ _ _ _ _ _ along (test .loop-test .taken) (line .tokens) token (c .if1 .taken)
 
-loop-again : tie.Need-loop-again Inv-loop μ-loop
-loop-again c =
-    let t = c .before in
+returns-2 : tie.Need-returns-2 Inv-loop μ-loop
+returns-2 c =
+    let sum = c .before .before in
+    let own = sum .before in
+    let t = own .before in
     let test = t .before .before .before .before in
     let loop = test .before in
     let line = loop .before .line-of .ensures in
     let along = loop .loop .inv .1 in
     let token = read _ _ _ _ line _ _ _ along _ _ _ _ refl refl (t .before .value-of .ensures) (t .token-fault .ensures) in
-    (omega (arith, test .loop-test .taken), along-more _ _ _ _ _ _ along _ _ _ _ token (c .if1 .left))
+    past _ _ _ _ _ _ _ _ _ _ _ along (test .loop-test .taken) (line .tokens) token (own .if1 .left) (sym (sum .plus .ensures) ∙ c .enum-told .given .1)
 
-returns-2 : tie.Need-returns-2 Inv-loop μ-loop
-returns-2 c =
+loop-again : tie.Need-loop-again Inv-loop μ-loop
+loop-again c =
+    let sum = c .before .before .before in
+    let own = sum .before in
+    let t = own .before in
+    let test = t .before .before .before .before in
+    let loop = test .before in
+    let line = loop .before .line-of .ensures in
+    let along = loop .loop .inv .1 in
+    let token = read _ _ _ _ line _ _ _ along _ _ _ _ refl refl (t .before .value-of .ensures) (t .token-fault .ensures) in
+    (omega (arith, test .loop-test .taken), along-more _ _ _ _ _ _ along _ _ _ _ token (own .if1 .left) _ (sym (sum .plus .ensures) ∙ c .before .later .given .1))
+
+returns-3 : tie.Need-returns-3 Inv-loop μ-loop
+returns-3 c =
     let loop = c .before in
     faultless _ _ _ _ _ _ _ (loop .loop .inv .1) (loop .loop .inv .0) (c .loop-test .left) (loop .before .line-of .ensures .tokens)
 
@@ -67,11 +71,13 @@ line-fault-spec =
     (λ c. search needs)
     (λ c. search needs)
     (λ c κs. search needs)
-    cast-end
-    add-end
     (λ c κs. search needs)
     returns
+    (λ c κs. search needs)
+    (λ c. search needs)
+    (λ c. search needs)
+    returns-2
     (λ c. search needs)
     (λ c. search needs)
     loop-again
-    returns-2)
+    returns-3)

@@ -1,6 +1,5 @@
 -- `plan::token_fault` meets its contract: the tests before each return say which fault it is. Assumes nothing.
 use borrow.Author.Needs.{needs}
-use borrow.Author.Tests.{lt-ltb, le-ltb}
 use Rattle.plan.specs.Judge.{faultOf}
 use Rattle.plan.proofs.token_fault.Statement.{statement}
 use Rattle.plan.proofs.token_fault.Tie as tie
@@ -22,18 +21,9 @@ token-fault-spec =
       c .if3 .taken,
     ))
     (λ c. simp (
-      c .before .before .before .before .before .if1 .left,
-      ← c .before .before .before .before .outside .ensures,
-      c .before .before .before .if2 .left,
-      ← c .before .before .breaks .ensures,
-      c .before .if3 .left,
-      lt-ltb _ _ (c .if4 .taken),
-    ))
-    (λ c. simp (
-      c .before .before .before .before .before .if1 .left,
-      ← c .before .before .before .before .outside .ensures,
-      c .before .before .before .if2 .left,
-      ← c .before .before .breaks .ensures,
-      c .before .if3 .left,
-      le-ltb _ _ (c .if4 .left),
+      c .before .before .before .before .if1 .left,
+      ← c .before .before .before .outside .ensures,
+      c .before .before .if2 .left,
+      ← c .before .breaks .ensures,
+      c .if3 .left,
     )))

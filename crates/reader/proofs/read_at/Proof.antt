@@ -38,16 +38,16 @@ use denote.Triple.Table.{entered, cited}
 use denote.Triple.Walked.{says, Stays, stay-none, stay-none-slice, walkOf, goes-none, goes-none-slice, Walks, ends-at, walked, walk-meets}
 use denote.Exit.{yes}
 use denote.Triple.Clauses.{ensured, lasts}
-use Rattle.plan.specs.Walk.{stepOf}
-use Rattle.plan.specs.declared.Position.{Position}
+use Rattle.lines.specs.Walk.{stepOf}
+use Rattle.lines.specs.declared.Position.{Position}
 use Rattle.reader.specs.declared.Reader.{Reader}
-use Rattle.plan.specs.declared.Step.{Step}
-use Rattle.plan.proofs.Position as P
-use Rattle.plan.proofs.Position.Laws as P′
+use Rattle.lines.specs.declared.Step.{Step}
+use Rattle.lines.proofs.Position as P
+use Rattle.lines.proofs.Position.Laws as P′
 use Rattle.reader.proofs.Reader as T
 use Rattle.reader.proofs.Reader.Laws as T′
-use Rattle.plan.proofs.Step as S
-use Rattle.plan.proofs.Step.Laws as S′
+use Rattle.lines.proofs.Step as S
+use Rattle.lines.proofs.Step.Laws as S′
 use Rattle.reader.proofs.Reader.new as new
 use Rattle.reader.proofs.Reader.new.Symbol as new-def
 use Rattle.reader.proofs.Reader.new.Symbol.{name as #reader·new}

@@ -7,7 +7,7 @@ use borrow.Author.Needs.{needs}
 use lib.ListN.{length, drop}
 use Rattle.words.specs.Runs.{run}
 use Rattle.words.specs.Least.{first}
-use Rattle.book.specs.Layout.{count, offset}
+use Rattle.layout.specs.Layout.{count, offset}
 use Rattle.translator.specs.Translation.{tooWide}
 use Rattle.translator.specs.Going.{gather, seek-hit, seek-end}
 use Rattle.translator.specs.Items.{ruleItems, ruleFor, rulesBy}

@@ -6,7 +6,7 @@ use native.Mathlib.Omega.{arith}
 use borrow.Author.Needs.{needs}
 use Rattle.words.specs.Runs.{run}
 use Rattle.words.specs.Least.{first}
-use Rattle.book.specs.Layout.{count, offset}
+use Rattle.layout.specs.Layout.{count, offset}
 use Rattle.translator.specs.Translation.{tooMany}
 use Rattle.translator.specs.Going.{Going, gather, start, go, done, gather-more, gather-none, front, put-one, seek-hit, seek-miss, seek-end}
 use Rattle.translator.specs.Items.{ruleItems, allItems, ruleFor, rulesBy}

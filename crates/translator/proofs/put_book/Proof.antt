@@ -4,7 +4,7 @@ use mathlib.Core.List.{_++_}
 use native.Mathlib.Omega.{arith}
 use borrow.Author.Needs.{needs}
 use Rattle.words.specs.Write.{then, has-first, has-second}
-use Rattle.book.specs.Inside.{offsets}
+use Rattle.book.proofs.Inside.{offsets}
 use Rattle.translator.specs.Whole.{tablesBy, copied, copied-long, book-by, book-room}
 use Rattle.translator.proofs.put_book.Statement.{statement}
 use Rattle.translator.proofs.put_book.Tie as tie

@@ -6,7 +6,7 @@ use native.Mathlib.Omega.{arith}
 use borrow.Author.Needs.{needs}
 use lib.ListN.{length}
 use Rattle.words.specs.Write.{has-first}
-use Rattle.book.specs.Layout.{count, offset}
+use Rattle.layout.specs.Layout.{count, offset}
 use Rattle.translator.specs.Going.{Going, gather, start, go, done, room}
 use Rattle.translator.specs.Items.{ruleItems, allItems}
 use Rattle.translator.specs.Listed.{items-start}

@@ -33,9 +33,9 @@ use denote.Triple.Table.{entered}
 use denote.Triple.Walked.{says, Stays, stay-none, walkOf, goes-none, Walks, ends-at, walked, walk-meets}
 use denote.Exit.{yes}
 use Rattle.reader.specs.declared.Reader.{Reader}
-use Rattle.plan.specs.declared.Position.{Position}
-use Rattle.plan.proofs.Position as P
-use Rattle.plan.proofs.Position.Laws as P′
+use Rattle.lines.specs.declared.Position.{Position}
+use Rattle.lines.proofs.Position as P
+use Rattle.lines.proofs.Position.Laws as P′
 use Rattle.reader.proofs.Reader as T
 use Rattle.reader.proofs.Reader.Laws as T′
 use Rattle.reader.proofs.Reader.moved.Key.{name as #reader·moved}

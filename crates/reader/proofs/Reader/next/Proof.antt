@@ -42,19 +42,19 @@ use denote.Triple.Table.{entered, cited}
 use denote.Triple.Walked.{says, Stays, stay-none, walkOf, goes-none, Walks, ends-at, walked, walk-meets}
 use denote.Exit.{yes}
 use denote.Triple.Clauses.{ensured, lasts}
-use Rattle.plan.specs.Walk.{stepOf}
+use Rattle.lines.specs.Walk.{stepOf}
 use Rattle.reader.specs.declared.Reader.{Reader}
-use Rattle.plan.specs.declared.Step.{Step}
-use Rattle.plan.proofs.Position as P
-use Rattle.plan.proofs.Position.Laws as P′
+use Rattle.lines.specs.declared.Step.{Step}
+use Rattle.lines.proofs.Position as P
+use Rattle.lines.proofs.Position.Laws as P′
 use Rattle.reader.proofs.Reader as T
 use Rattle.reader.proofs.Reader.Laws as T′
-use Rattle.plan.proofs.Step as S
-use Rattle.plan.proofs.Step.Laws as S′
-use Rattle.plan.proofs.Position.step as step
-use Rattle.plan.proofs.Position.step.Symbol as step-def
-use Rattle.plan.proofs.Position.step.Symbol.{name as #plan·step}
-use Rattle.plan.proofs.Position.step.Met as step-thm
+use Rattle.lines.proofs.Step as S
+use Rattle.lines.proofs.Step.Laws as S′
+use Rattle.lines.proofs.Position.step as step
+use Rattle.lines.proofs.Position.step.Symbol as step-def
+use Rattle.lines.proofs.Position.step.Symbol.{name as #plan·step}
+use Rattle.lines.proofs.Position.step.Met as step-thm
 use Rattle.reader.proofs.Reader.next.Key.{name as #reader·next}
 use Rattle.reader.proofs.Reader.next as next
 use Rattle.reader.proofs.Reader.next.Statement as stated
@@ -165,4 +165,4 @@ next-spec 𝓤 H 𝓜 𝓖 𝓡 =
     entered 𝓤 H (tripleOf 𝓤 H (𝓖 .A) next.signature (next.spec 𝓤 H (𝓖 .A) (𝓜 .mem) (𝓡 .run)))
     (tables 𝓤 H 𝓜 𝓡 code.env .C) (tables 𝓤 H 𝓜 𝓡 code.env .Λ) #reader·next code.function (code.unfolded 𝓤 H 𝓜 𝓡)
     (next-meets 𝓤 H (𝓖 .A) (givenOf 𝓤 H 𝓜 𝓖) (𝓜 .mem) (𝓡 .run) (tablesOf 𝓤 H 𝓜 (tables 𝓤 H 𝓜 𝓡 code.env))
-    (cited 𝓤 H (StepOf 𝓤 H (𝓖 .A) (𝓜 .mem) (𝓡 .run)) 𝓜 𝓡 code.env #plan·step step-def.routine code.calls-plan·Position·step (step-thm.met 𝓤 H 𝓜 𝓖 𝓡)))
+    (cited 𝓤 H (StepOf 𝓤 H (𝓖 .A) (𝓜 .mem) (𝓡 .run)) 𝓜 𝓡 code.env #plan·step step-def.routine code.calls-lines·Position·step (step-thm.met 𝓤 H 𝓜 𝓖 𝓡)))

@@ -1,0 +1,4 @@
+-- The definitions that the contracts of `layout` cite.
+pub mod Layout
+pub mod Fault
+pub mod Owner

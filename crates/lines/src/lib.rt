@@ -1,0 +1,162 @@
+// The layout of a plan, answers 5 to 7, and a position on one of its timelines.
+use answers::Answer;
+use clock::Later;
+use clock::Time;
+ghost use mathlib.Core.Path.{_≡_};
+ghost use Prim.Native.Nat.{_<_, _^_};
+ghost use Rattle.answers.specs.Numbers.{numbersOf};
+ghost use Rattle.clock.specs.Clock.{noLimit};
+ghost use Rattle.lines.specs.Fault.{sumBefore, headWrong, firstHead, linesFault};
+ghost use Rattle.lines.specs.Walk.{position, stepOf};
+
+// A token of a timeline: its value, and when it starts and ends.
+pub struct Token {
+    pub value: u32,
+    pub start: Time,
+    pub end: Time,
+}
+
+// A place on a timeline: its line, the number of the next token there, and when that starts.
+pub struct Position {
+    pub line: u32,
+    pub token: u32,
+    pub start: Time,
+}
+
+// What a step gives: the token and the next position, or the position back.
+pub enum Step {
+    Handed(Token, Position),
+    NoMore(Position),
+}
+
+// What the first token of line v has to be: the running sum of the counts before it.
+fn sum_before(plan: &[u32], v: usize) -> usize
+    requires { ⌜ v < 2 ^ 40 ⌝ }
+    ensures { λ r. ⌜ (r ≡ sumBefore (now (plan .entry)) v) × (r < 2 ^ 33) ⌝ }
+{
+    if v == 0 {
+        return 0;
+    }
+    let first = words::number_at(plan, 3 + 2 * (v - 1));
+    let tokens = words::number_at(plan, 4 + 2 * (v - 1));
+    first + tokens
+}
+
+// Whether word k before the tokens is wrong.
+fn head_wrong(book: &[u32], plan: &[u32], k: usize) -> bool
+    requires { ⌜ k < 2 ^ 40 ⌝ }
+    ensures { λ r. ⌜ r ≡ headWrong (now (book .entry)) (now (plan .entry)) k ⌝ }
+{
+    let x = words::number_at(plan, k);
+    if k == 0 {
+        return x != 1;
+    }
+    if k == 1 {
+        return x != plan.len();
+    }
+    if k == 2 {
+        return x != words::number_at(book, 2);
+    }
+    if k % 2 == 1 {
+        return x != sum_before(plan, (k - 3) / 2);
+    }
+    x > 512
+}
+
+// The first wrong word before the tokens, or where the tokens begin.
+fn first_head(book: &[u32], plan: &[u32]) -> usize
+    ensures { λ r. ⌜ r ≡ firstHead (now (book .entry)) (now (plan .entry)) ⌝ }
+{
+    let n = 3 + 2 * words::number_at(book, 2);
+    let mut k = 0;
+    while k < n {
+        if head_wrong(book, plan, k) {
+            return k;
+        }
+        k += 1;
+    }
+    k
+}
+
+// What is wrong with the plan up to its tokens, given the book: the first of answers 5 to 7 that fits, or no fault.
+pub fn check(book: &[u32], plan: &[u32]) -> Answer
+    ensures { λ r. ⌜ numbersOf r ≡ linesFault (now (book .entry)) (now (plan .entry)) ⌝ }
+{
+    let n = words::number_at(book, 2);
+    let start = 3 + 2 * n;
+    let length = plan.len();
+    if (length < start) | (length > 16384) {
+        return Answer::PlanLength;
+    }
+    let k = first_head(book, plan);
+    if k < start {
+        return Answer::PlanHeader { word: k as u32 };
+    }
+    let sum = sum_before(plan, n);
+    if start + 2 * sum != length {
+        return Answer::PlanEnd;
+    }
+    Answer::Done { a: 0, b: 0 }
+}
+
+impl Position {
+    // The first token of a line.
+    pub fn at_start(line: u32) -> Position
+        ensures { λ r. ⌜ r ≡ position line 0 0 ⌝ }
+    {
+        Position {
+            line,
+            token: 0,
+            start: Time { tick: 0 },
+        }
+    }
+
+    // A position that names no token.
+    pub fn nowhere(line: u32) -> Position
+        ensures { λ r. ⌜ r ≡ position line noLimit 0 ⌝ }
+    {
+        Position {
+            line,
+            token: Time::NO_LIMIT,
+            start: Time { tick: 0 },
+        }
+    }
+
+    // The token that the position names, with the next position; or no more, and the position back.
+    pub fn step(self, plan: &[u32]) -> Step
+        ensures { λ r. ⌜ r ≡ stepOf (now (plan .entry)) self ⌝ }
+    {
+        let line = self.line;
+        let number = self.token;
+        let start = self.start;
+        let l = line as usize;
+        let k = number as usize;
+        let lines = words::number_at(plan, 2);
+        if lines <= l {
+            return Step::NoMore(self);
+        }
+        let tokens = words::number_at(plan, 4 + 2 * l);
+        if tokens <= k {
+            return Step::NoMore(self);
+        }
+        let at = 3 + 2 * lines + 2 * words::number_at(plan, 3 + 2 * l) + 2 * k;
+        if plan.len() <= at + 1 {
+            return Step::NoMore(self);
+        }
+        match start.plus(words::word_at(plan, at + 1)) {
+            Later::Past => Step::NoMore(self),
+            Later::At(end) => Step::Handed(
+                Token {
+                    value: words::word_at(plan, at),
+                    start,
+                    end,
+                },
+                Position {
+                    line,
+                    token: number + 1,
+                    start: end,
+                },
+            ),
+        }
+    }
+}

@@ -1,0 +1,2 @@
+-- The definitions that the contracts of `records` cite.
+pub mod Wrong

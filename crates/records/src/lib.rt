@@ -1,0 +1,196 @@
+// Whether a record of a book or a sheet is wrong: the tests of its words, each given the words before it and the tables before. The
+// record is given with its place, which lies in the book, and with its owners where its words are tested against them.
+ghost use mathlib.Core.Path.{_≡_};
+ghost use mathlib.Core.Bool.{_||_};
+ghost use Prim.Native.Nat.{_+_, _*_, _<_, _≤_, _^_};
+ghost use lib.Dec.{ltb};
+ghost use lib.ListN.{length};
+ghost use Rattle.words.specs.Words.{word};
+ghost use Rattle.layout.specs.Layout.{offset, owner};
+ghost use Rattle.layout.specs.Owner.{Place};
+ghost use Rattle.records.specs.Wrong.{someWrong, lowerWrong, upperWrong, setWrong, tokenWrong, argumentWrong, atomTests, constraintTests, recordWrong};
+use clock::Time;
+use layout::count_of;
+use layout::fifth_most;
+use layout::offset_of;
+use layout::read;
+use layout::starts_of;
+use words::number_at;
+
+// The time's marks, to be held against words.
+const LAST_TICK: usize = Time::LAST_TICK as usize;
+
+const NO_LIMIT: usize = Time::NO_LIMIT as usize;
+
+// ---- tests of words
+
+// Whether a range has not lo..hi records, or runs past the n that there are.
+fn number_wrong(first: usize, number: usize, lo: usize, hi: usize, n: usize) -> bool
+    requires { ⌜ (first < 2 ^ 32) × (number < 2 ^ 32) ⌝ }
+    ensures { λ r. ⌜ r ≡ ((ltb number lo || ltb hi number) || ltb n (first + number)) ⌝ }
+{
+    ((number < lo) | (number > hi)) | (first + number > n)
+}
+
+// Whether x, the lower of two bounds, is not lo..1,000,000,000.
+fn lower_wrong(lo: usize, x: usize) -> bool
+    ensures { λ r. ⌜ r ≡ lowerWrong lo x ⌝ }
+{
+    (x < lo) | (x > LAST_TICK)
+}
+
+// Whether y, the upper of two bounds, is not from the lower x to 1,000,000,000, nor the mark for no limit.
+fn upper_wrong(x: usize, y: usize) -> bool
+    ensures { λ r. ⌜ r ≡ upperWrong x y ⌝ }
+{
+    (y < x) | ((y > LAST_TICK) & (y != NO_LIMIT))
+}
+
+// Whether a set has a bit at or above n; a word has none from 32 on.
+fn set_wrong(set: usize, n: usize) -> bool
+    requires { ⌜ set < 2 ^ 32 ⌝ }
+    ensures { λ r. ⌜ r ≡ setWrong set n ⌝ }
+{
+    if n < 32 { (1 << n) <= set } else { false }
+}
+
+// How many values variable v has. Any word may stand for v: past the end it has none.
+fn values_of(b: &[u32], v: usize) -> usize
+    requires { ⌜ v < 2 ^ 32 ⌝ }
+    ensures { λ r. ⌜ r ≡ word (now (b .entry)) (offset (now (b .entry)) 0 + v * 2 + 1) ⌝ }
+{
+    number_at(b, offset_of(b, 0) + v * 2 + 1)
+}
+
+// Whether x names no token of an alternative with n names: 0 is the trigger, which has to be there.
+fn token_wrong(n: usize, trigger: bool, x: usize) -> bool
+    ensures { λ r. ⌜ r ≡ tokenWrong n trigger x ⌝ }
+{
+    (x > n) | ((x == 0) & !trigger)
+}
+
+// Whether x is no argument for a term of this kind: a time point, or a token.
+fn argument_wrong(n: usize, trigger: bool, kind: usize, x: usize) -> bool
+    ensures { λ r. ⌜ r ≡ argumentWrong n trigger kind x ⌝ }
+{
+    ((kind == 2) & (x > LAST_TICK)) | ((kind < 2) & token_wrong(n, trigger, x))
+}
+
+// ---- tests of records, at their place: one test for each word in turn, all of them made
+
+// Whether record i of table 0 is wrong.
+fn variable_wrong(b: &[u32], e: usize, i: usize, at: usize) -> bool
+    requires { ⌜ Place e (now b) 0 i at ⌝ }
+    ensures { λ r. ⌜ r ≡ recordWrong e (now (b .entry)) 0 i ⌝ }
+{
+    let first = read(b, at);
+    let number = read(b, at + 1);
+    (first != starts_of(b, e, 0, 0, i, at)) | number_wrong(first, number, 1, 32, count_of(b, 1))
+}
+
+// Whether record i of table 1 is wrong; v is its variable.
+pub fn value_wrong(b: &[u32], e: usize, i: usize, at: usize, v: usize) -> bool
+    requires { ⌜ Place e (now b) 1 i at × (v < 2 ^ 32) × (v ≡ owner e (now b) 0 0 i) ⌝ }
+    ensures { λ r. ⌜ r ≡ recordWrong e (now (b .entry)) 1 i ⌝ }
+{
+    let least = read(b, at);
+    let greatest = read(b, at + 1);
+    let set = read(b, at + 2);
+    let n = values_of(b, v);
+    lower_wrong(1, least) | (upper_wrong(least, greatest) | set_wrong(set, n))
+}
+
+// Whether record i of table 2 is wrong.
+fn rule_wrong(b: &[u32], e: usize, i: usize, at: usize) -> bool
+    requires { ⌜ Place e (now b) 2 i at ⌝ }
+    ensures { λ r. ⌜ r ≡ recordWrong e (now (b .entry)) 2 i ⌝ }
+{
+    let v = read(b, at);
+    let x = read(b, at + 1);
+    let first = read(b, at + 2);
+    let number = read(b, at + 3);
+    ((v != NO_LIMIT) & (v >= count_of(b, 0)))
+        | ((((v == NO_LIMIT) & (x != 0)) | ((v != NO_LIMIT) & (x >= values_of(b, v))))
+            | ((first != starts_of(b, e, 2, 2, i, at))
+                | number_wrong(first, number, 1, 64, count_of(b, 3))))
+}
+
+// Whether record i of table 3 is wrong.
+fn alternative_wrong(b: &[u32], e: usize, i: usize, at: usize) -> bool
+    requires { ⌜ Place e (now b) 3 i at ⌝ }
+    ensures { λ r. ⌜ r ≡ recordWrong e (now (b .entry)) 3 i ⌝ }
+{
+    let name = read(b, at);
+    let names = read(b, at + 1);
+    let ask = read(b, at + 2);
+    let asks = read(b, at + 3);
+    (name != starts_of(b, e, 3, 0, i, at))
+        | (number_wrong(name, names, 0, 4, count_of(b, 4))
+            | ((ask != starts_of(b, e, 3, 2, i, at))
+                | number_wrong(ask, asks, 0, fifth_most(e), count_of(b, 5))))
+}
+
+// Whether record i of table 4 is wrong.
+fn name_wrong(b: &[u32], e: usize, i: usize, at: usize) -> bool
+    requires { ⌜ Place e (now b) 4 i at ⌝ }
+    ensures { λ r. ⌜ r ≡ recordWrong e (now (b .entry)) 4 i ⌝ }
+{
+    let v = read(b, at);
+    (v >= count_of(b, 0)) | (read(b, at + 1) >= values_of(b, v))
+}
+
+// Whether an atom is wrong, in an alternative with n names, whose rule has a trigger or not.
+fn atom_wrong(b: &[u32], at: usize, n: usize, trigger: bool) -> bool
+    requires { ⌜ at + 6 ≤ length (now b) ⌝ }
+    ensures { λ r. ⌜ r ≡ someWrong (atomTests (now (b .entry)) at n trigger) ⌝ }
+{
+    let left = read(b, at);
+    let right = read(b, at + 2);
+    let lower = read(b, at + 4);
+    (left > 2)
+        | (argument_wrong(n, trigger, left, read(b, at + 1))
+            | ((right > 2)
+                | (argument_wrong(n, trigger, right, read(b, at + 3))
+                    | (lower_wrong(0, lower) | upper_wrong(lower, read(b, at + 5))))))
+}
+
+// Whether a constraint is wrong, in an alternative with n names, whose rule has a trigger or not.
+fn constraint_wrong(b: &[u32], at: usize, n: usize, trigger: bool) -> bool
+    requires { ⌜ at + 3 ≤ length (now b) ⌝ }
+    ensures { λ r. ⌜ r ≡ someWrong (constraintTests (now (b .entry)) at n trigger) ⌝ }
+{
+    let set = read(b, at + 2);
+    token_wrong(n, trigger, read(b, at))
+        | (token_wrong(n, trigger, read(b, at + 1)) | ((set < 1) | (set > 8191)))
+}
+
+// Whether record i of table 5 is wrong; a is its alternative, and r that one's rule.
+pub fn fifth_wrong(b: &[u32], e: usize, i: usize, at: usize, a: usize, r: usize) -> bool
+    requires { ⌜ Place e (now b) 5 i at × (a < 2 ^ 32) × (r < 2 ^ 32) × (a ≡ owner e (now b) 3 2 i) × (r ≡ owner e (now b) 2 2 a) ⌝ }
+    ensures { λ w. ⌜ w ≡ recordWrong e (now (b .entry)) 5 i ⌝ }
+{
+    let n = number_at(b, offset_of(b, 3) + a * 4 + 1);
+    let trigger = number_at(b, offset_of(b, 2) + r * 4) != NO_LIMIT;
+    if e == 2 {
+        constraint_wrong(b, at, n, trigger)
+    } else {
+        atom_wrong(b, at, n, trigger)
+    }
+}
+
+// Whether record i of table t is wrong, of the tables whose records are tested without an owner: 0, 2, 3, 4.
+pub fn plain_wrong(b: &[u32], e: usize, t: usize, i: usize, at: usize) -> bool
+    requires { ⌜ (t < 5) × (t ≡ 1 → ⊥) × Place e (now b) t i at ⌝ }
+    ensures { λ r. ⌜ r ≡ recordWrong e (now (b .entry)) t i ⌝ }
+{
+    if t == 0 {
+        return variable_wrong(b, e, i, at);
+    }
+    if t == 2 {
+        return rule_wrong(b, e, i, at);
+    }
+    if t == 3 {
+        return alternative_wrong(b, e, i, at);
+    }
+    name_wrong(b, e, i, at)
+}
