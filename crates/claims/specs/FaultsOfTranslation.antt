@@ -273,8 +273,9 @@ module _ (s : List ℕ) (room : ℕ) where
       ↔ (Sound 2 s × None (length (rulesFor s)) (TooMany s) × Sizes s × (length (translated s) ≤ room))
   taken-sound = (
     λ h.
-        let answer : translation s room ≡ numbers 0 (translation s room .a) (translation s room .b) = ap (λ (n : ℕ). numbers n (translation s room .a) (translation s room .b)) h in
-        let t = translation-faults .done _ _ .0 answer in
-        (t .0, t .1, t .2, subst (λ k. k ≤ room) (sym (t .3)) (t .4)),
+        let passed = at-last (bookStages 2 s (ownStages s room)) (doneStage s) (translation s room)
+        (book-owned 2 s (ownStages s room) (doneStage s) (own-owned s room)) (own-apart s room) (inl h) .0 (sym (in-order s room)) in
+        let w = with-book 2 s .0 (passed .0) in
+        (w .0, many-none .0 (w .1 .0), sizes-none .0 (w .1 .1 .0), room-none .0 (w .1 .1 .1 .0)),
     λ h. ap (λ (r : Numbers). r .number) (translation-faults .done _ _ .1 (h .0, h .1, h .2, refl, h .3, refl)),
   )

@@ -9,7 +9,7 @@ use native.Mathlib.Nat.{add-zero}
 use native.Mathlib.Decide.{decLe}
 use native.Mathlib.Omega.{arith}
 use lib.Dec.{leb, eqb}
-use lib.ListN.{length, getD, take, length-take}
+use lib.ListN.{length, getD, take}
 use lib.Seq.{length-take-le, take-all, take-length, take-suc, getD-append-add}
 use borrow.Author.Tests.{le-leb, lt-leb, lt-ltb, eq-eqb, ne-eqb}
 use Rattle.answers.specs.declared.Numbers.{Numbers}
@@ -20,9 +20,11 @@ use Rattle.layout.specs.Layout.{count}
 use Rattle.book.specs.Fault as book
 use Rattle.plan.specs.Fault as plan
 use Rattle.verdict.specs.Judged.{judged, judgedSheet}
-use Rattle.translator.specs.Translation.{translation, roomAfter}
-use Rattle.claims.specs.TranslatedGood.{written-judged}
-use Rattle.claims.specs.Taken.{done-answer}
+use Rattle.translator.specs.Translation.{translated, translation, roomAfter}
+use Rattle.claims.specs.TranslatedGood.{translated-good, demand-3, written-book}
+use Rattle.claims.specs.FaultsOfTables.{book-none}
+use Rattle.claims.specs.Matched.{all-at}
+use Rattle.claims.specs.SoundWords.{Word, sound-words}
 use Rattle.claims.specs.FaultsOfTranslation.{taken-sound}
 
 -- ---- what is claimed
@@ -106,10 +108,6 @@ unfit-plan b u = rw (unfit-words u, no-plan)
 
 -- ---- the bytes of words read back as these words
 
--- a number of 32 bits
-abbrev pub Word : ℕ → Type 0
-Word w = w < 2 ^ 32
-
 -- its four bytes say it
 parts : (w : ℕ) → (w / 65536 ≡ w / 256 / 256) × (w / 16777216 ≡ w / 256 / 256 / 256)
 parts w = (omega arith, omega arith)
@@ -144,26 +142,18 @@ bytes-back ws h l =
 
 -- ---- sheet.bin, `translate`, book.bin, `judge`
 
--- what is so of each word is so of the first n
-all-take : (P : ℕ → Type 0) (n : ℕ) (ws : List ℕ) → All P ws → All P (take n ws)
-all-take P zero ws h = tt
-all-take P (suc n) [] h = tt
-all-take P (suc n) (w ∷ ws) h = (h .0, all-take P n ws (h .1))
-
--- what was written is at most the room
-written-few : (s : List ℕ) (room : ℕ) → translation s room .number ≡ 0 → (ws : List ℕ) → length (take (translation s room .a) ws) ≤ room
-written-few s room h ws =
-    let long = taken-sound s room .0 h .3 in
-    let is = ap (λ (r : Numbers). r .a) (done-answer s room h) in
-    omega (arith, length-take (translation s room .a) ws)
+-- the book that a sheet becomes is words of 32 bits, and at most 16,384 of them
+translated-words : (s : List ℕ) → translation s 16384 .number ≡ 0 → All Word (translated s) × (length (translated s) ≤ 16384)
+translated-words s h =
+    let sound = book-none 1 (translated s) .0 (ap (λ (r : Numbers). r .number) (translated-good s 16384 h)) in
+    (all-at Word 0 (translated s) .1 (sound-words sound), taken-sound s 16384 .0 h .3)
 
 -- THE THEOREM: where `translate` prints 0, `judge` prints of the book.bin that it wrote and of any plan.bin what reading the sheet directly
--- gives. The room is any before; afterwards it is as `front::translate` promises, in words of 32 bits
-pub files-judged : (sheet plan : File) (room after : List ℕ) → length room ≡ 16384 → All Word after → after ≡ roomAfter (fileWords (read sheet)) room
+-- gives. The room is any of 16,384 words before; afterwards it is as `front::translate` promises
+pub files-judged : (sheet plan : File) (room after : List ℕ) → length room ≡ 16384 → after ≡ roomAfter (fileWords (read sheet)) room
     → translatePrints sheet .number ≡ 0 → judgePrints (translateWrites sheet after) plan ≡ directPrints sheet plan
-files-judged sheet plan room after long words is done =
+files-judged sheet plan room after long is done =
     let s : List ℕ = fileWords (read sheet) in
-    let written : List ℕ = take (translation s 16384 .a) after in
-    let back : fileWords (read (holding (bytesOf written))) ≡ written = bytes-back written (all-take Word (translation s 16384 .a) after words) (written-few s 16384 done after) in
-    let same = rw long at (written-judged s room (fileWords (read plan))) in
-    ap (λ (b : List ℕ). judged b (fileWords (read plan))) (back ∙ ap (take (translation s 16384 .a)) is) ∙ same done
+    let q = translated-words s done in
+    let written : take (translation s 16384 .a) after ≡ translated s = rw is (rw long at (written-book s room) done) in
+    rw (written, bytes-back (translated s) (q .0) (q .1)) (demand-3 s (fileWords (read plan)) 16384 done)

@@ -14,6 +14,7 @@ pub mod FaultsOfRules
 pub mod FaultsOfTranslation
 pub mod Taken
 pub mod TranslatedGood
+pub mod SoundWords
 pub mod Files
 pub mod Specimens
 pub mod Inputs

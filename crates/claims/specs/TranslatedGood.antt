@@ -233,11 +233,12 @@ translated-good s room h =
 pub demand-3 : (s p : List ℕ) (room : ℕ) → translation s room .number ≡ 0 → judged (translated s) p ≡ judgedSheet s p
 demand-3 s p room h = translated-judged s (sound-sheet s (taken s room .0 h .0)) (translated-good s room h) p
 
--- the same of the words that stand in the room afterwards: "0 done (a words written ..)"
+-- the words written are the book that the sheet becomes: "0 done (a words written ..)"
+pub written-book : (s room : List ℕ) → translation s (length room) .number ≡ 0 → take (translation s (length room) .a) (roomAfter s room) ≡ translated s
+unfolding roomAfter
+written-book s room h = rw (eq-eqb _ _ h, done-answer s (length room) h) (take-append-seam (translated s) (drop (length (translated s)) room))
+
+-- so the same holds of the words that stand in the room afterwards
 pub written-judged : (s room p : List ℕ) → translation s (length room) .number ≡ 0
     → judged (take (translation s (length room) .a) (roomAfter s room)) p ≡ judgedSheet s p
-unfolding roomAfter
-written-judged s room p h =
-    let book : take (translation s (length room) .a) (roomAfter s room) ≡ translated s =
-    rw (eq-eqb _ _ h, done-answer s (length room) h) (take-append-seam (translated s) (drop (length (translated s)) room)) in
-    rw book (demand-3 s p (length room) h)
+written-judged s room p h = rw (written-book s room h) (demand-3 s p (length room) h)
