@@ -1,5 +1,8 @@
-# make demo: prove and build the judge, and judge the shipped morning. make test: the gate.
-.PHONY: demo test lib bench
+# make demo: prove and build the judge, and judge the shipped morning. make test: the gate. The others are for a day's work.
+PREFIX ?= /usr/local
+to = $(DESTDIR)$(abspath $(PREFIX))
+
+.PHONY: demo test check lib programs install bench stack believed
 
 demo:
 	rt check judge
@@ -8,10 +11,36 @@ demo:
 test:
 	bash .ci/run
 
+# the gate without must-fail edits: what didn't change isn't proved again
+check:
+	bash .ci/run quick
+
 # the static library for C and Rust, with include/tteokbiran.h
 lib:
 	rt staticlib front
+	mkdir -p target/lib
+	cp target/staticlib/libfront.a target/lib/libtteokbiran.a
+
+programs:
+	rt check judge translate
+
+# header, library, pkg-config file and programs, below PREFIX
+install: lib programs
+	install -d $(to)/include $(to)/lib/pkgconfig $(to)/bin
+	install -m 644 include/tteokbiran.h $(to)/include
+	install -m 644 target/lib/libtteokbiran.a $(to)/lib
+	sed 's|@PREFIX@|$(abspath $(PREFIX))|' include/tteokbiran.pc.in >$(to)/lib/pkgconfig/tteokbiran.pc
+	install -m 755 target/bin/judge target/bin/translate $(to)/bin
 
 # the proved library against the second judge, in one run on the same inputs
 bench: lib
 	cd second && cargo build --release --offline && target/release/bench
+
+# how much stack each exported function takes on the examples
+stack: lib
+	gcc -std=c11 -O2 -Wall -Wextra -Werror -Iinclude rip/stack.c target/lib/libtteokbiran.a -o target/stack
+	target/stack examples/*/
+
+# how many lines of definitions a reader has to believe
+believed:
+	@bash .ci/believed

@@ -3,7 +3,7 @@
 use crate::layout::{
     tables, Answer, Kind, Tables, LAST, MAX_ALTERNATIVES, MAX_NAMES, MAX_VALUES, N,
 };
-use crate::plan::Span;
+use crate::placed::Placed;
 use std::ops::Range;
 
 pub struct Value {
@@ -46,38 +46,6 @@ impl Owner {
     pub fn token(&self, number: u32) -> Option<usize> {
         let good = number <= self.names && (number > 0 || self.trigger);
         good.then_some(number as usize)
-    }
-}
-
-/// Start and end of the trigger and of up to four names, then a 0 for tests
-/// that speak of no token.
-pub struct Placed([i64; 11]);
-
-impl Placed {
-    /// Where the 0 is.
-    pub const ZERO: usize = 10;
-
-    pub fn start(token: usize) -> usize {
-        2 * token
-    }
-
-    pub fn end(token: usize) -> usize {
-        2 * token + 1
-    }
-
-    pub fn new(trigger: Span) -> Placed {
-        let mut placed = Placed([0; 11]);
-        placed.put(0, trigger);
-        placed
-    }
-
-    pub fn put(&mut self, token: usize, span: Span) {
-        self.0[Placed::start(token)] = i64::from(span.start);
-        self.0[Placed::end(token)] = i64::from(span.end);
-    }
-
-    pub fn time(&self, place: usize) -> i64 {
-        self.0[place]
     }
 }
 

@@ -4,6 +4,7 @@
 pub mod decode;
 pub mod generate;
 pub mod layout;
+pub mod placed;
 pub mod plan;
 pub mod reader;
 pub mod search;

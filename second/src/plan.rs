@@ -2,14 +2,7 @@
 
 use crate::decode::{Book, Value};
 use crate::layout::{Answer, LAST, MAX_TOKENS, MAX_WORDS, N};
-
-/// A token in time, with its number in its line.
-#[derive(Clone, Copy, Default)]
-pub struct Span {
-    pub start: u32,
-    pub end: u32,
-    pub token: u32,
-}
+use crate::placed::Span;
 
 /// The tokens of each value, in the order of their line.
 pub struct Tokens {

@@ -27,7 +27,7 @@ mod calls {
     use super::*;
 
     // A slice is a pointer and a count; an answer comes back number by number.
-    #[link(name = "front", kind = "static")]
+    #[link(name = "tteokbiran", kind = "static")]
     extern "C" {
         fn tteokbiran_judge(
             book: *const u8,

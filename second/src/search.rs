@@ -1,8 +1,9 @@
 //! Whether the rules are met, and what an atom says.
 
-use crate::decode::{Alternative, Book, Owner, Placed, Test};
+use crate::decode::{Alternative, Book, Owner, Test};
 use crate::layout::{Answer, Kind, LAST, N};
-use crate::plan::{Span, Tokens};
+use crate::placed::{Placed, Span};
+use crate::plan::Tokens;
 
 /// Where a term's time stands among the placed ones, the name it needs, and
 /// what to add. A time point stands at the 0 and adds itself.

@@ -1,7 +1,8 @@
 //! Constraints in Allen's relations, read directly on the tokens.
 
-use crate::decode::{Owner, Placed, Test};
+use crate::decode::{Owner, Test};
 use crate::layout::Kind;
+use crate::placed::Placed;
 use std::cmp::Ordering::{Equal, Greater, Less};
 
 /// How many relations there are.

@@ -1,11 +1,13 @@
 // Files for the programs: the bytes of a file, the line of numbers, and a book written out.
+ghost use mathlib.Core.Path.{_≡_};
+ghost use lib.ListN.{take};
 ghost use Rattle.io.specs.Counts.{Counts};
 use answers::Answer;
 use libc::STDOUT_FILENO;
 
 // The bytes of a file, at the start of buf, and how many they are: none where it can't be opened. The four bytes beyond 65,536
 // show that a file is too long.
-fn slurp(path: &[u8], buf: &mut [u8; 65540]) -> usize
+pub fn slurp(path: &[u8], buf: &mut [u8; 65540]) -> usize
     ensures { λ r. ⌜ Counts r (now (buf .exit)) ⌝ }
 {
     let fd = os::open_read(path);
@@ -18,7 +20,7 @@ fn slurp(path: &[u8], buf: &mut [u8; 65540]) -> usize
 }
 
 // Prints an answer's three numbers on a line.
-fn show(r: Answer) {
+pub fn show(r: Answer) {
     let n = answers::numbers_of(r);
     io::print_decimal(STDOUT_FILENO, n.number as u64);
     io::write_all(STDOUT_FILENO, b" ");
@@ -37,23 +39,24 @@ pub fn judge(book: &[u8], plan: &[u8]) {
     show(front::judge(&b[..m], &p[..n]));
 }
 
-// Judges a sheet, read directly, and a plan by their files' names, and prints the line.
-pub fn judge_sheet(sheet: &[u8], plan: &[u8]) {
-    let mut s = [0u8; 65540];
-    let mut p = [0u8; 65540];
-    let m = slurp(sheet, &mut s);
-    let n = slurp(plan, &mut p);
-    show(front::judge_sheet(&s[..m], &p[..n]));
-}
-
 // The first n words of s, or all where there are fewer.
-fn first_words(s: &[u32], n: usize) -> &[u32] {
-    if n < s.len() { &s[..n] } else { s }
+fn first_words(s: &[u32], n: usize) -> &[u32]
+    ensures { λ r. ⌜ now r ≡ take n (now (s .entry)) ⌝ }
+{
+    if n < s.len() {
+        return &s[..n];
+    }
+    s
 }
 
 // The first n bytes of s, or all where there are fewer.
-fn first_bytes(s: &[u8], n: usize) -> &[u8] {
-    if n < s.len() { &s[..n] } else { s }
+fn first_bytes(s: &[u8], n: usize) -> &[u8]
+    ensures { λ r. ⌜ now r ≡ take n (now (s .entry)) ⌝ }
+{
+    if n < s.len() {
+        return &s[..n];
+    }
+    s
 }
 
 // Writes the words of a book as bytes to a new file, which then takes the place of the old one: whether that was done.
@@ -90,12 +93,4 @@ pub fn translate(sheet: &[u8], book: &[u8], fresh: &[u8]) {
         }
     }
     show(r);
-}
-
-// Translates a sheet in a room of 105 words, one too few for the specimen that it is for, and prints the line.
-pub fn translate_short(sheet: &[u8]) {
-    let mut s = [0u8; 65540];
-    let m = slurp(sheet, &mut s);
-    let mut room = [0u32; 105];
-    show(front::translate(&s[..m], &mut room));
 }

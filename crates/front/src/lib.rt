@@ -29,10 +29,10 @@ pub fn judge_sheet(sheet: &[u8], plan: &[u8]) -> Answer
     ensures { λ r. ⌜ numbersOf r ≡ judgedSheet (fileWords (now (sheet .entry))) (fileWords (now (plan .entry))) ⌝ }
 {
     let mut s = [0u32; 16384];
-    let mut p = [0u32; 16384];
+    let mut q = [0u32; 16384];
     let m = words::load(sheet, &mut s);
-    let n = words::load(plan, &mut p);
-    verdict::judge_sheet(&s[..m], &p[..n])
+    let n = words::load(plan, &mut q);
+    verdict::judge_sheet(&s[..m], &q[..n])
 }
 
 // The translation of a sheet's bytes into lent words.
@@ -57,10 +57,10 @@ pub extern "C" fn tteokbiran_judge(
     ensures { λ _. ⌜ now (a .exit) ≡ judged (fileWords (now (book .entry))) (fileWords (now (plan .entry))) .a ⌝ }
     ensures { λ _. ⌜ now (b .exit) ≡ judged (fileWords (now (book .entry))) (fileWords (now (plan .entry))) .b ⌝ }
 {
-    let r = answers::numbers_of(judge(book, plan));
-    *number = r.number;
-    *a = r.a;
-    *b = r.b;
+    let by_book = answers::numbers_of(judge(book, plan));
+    *number = by_book.number;
+    *a = by_book.a;
+    *b = by_book.b;
 }
 
 // For C: the direct judge of a sheet and a plan.
@@ -76,10 +76,10 @@ pub extern "C" fn tteokbiran_judge_sheet(
     ensures { λ _. ⌜ now (a .exit) ≡ judgedSheet (fileWords (now (sheet .entry))) (fileWords (now (plan .entry))) .a ⌝ }
     ensures { λ _. ⌜ now (b .exit) ≡ judgedSheet (fileWords (now (sheet .entry))) (fileWords (now (plan .entry))) .b ⌝ }
 {
-    let r = answers::numbers_of(judge_sheet(sheet, plan));
-    *number = r.number;
-    *a = r.a;
-    *b = r.b;
+    let by_sheet = answers::numbers_of(judge_sheet(sheet, plan));
+    *number = by_sheet.number;
+    *a = by_sheet.a;
+    *b = by_sheet.b;
 }
 
 // For C: the translator, into lent words.
@@ -96,10 +96,10 @@ pub extern "C" fn tteokbiran_translate(
     ensures { λ _. ⌜ now (b .exit) ≡ translation (fileWords (now (sheet .entry))) (length (now (room .entry))) .b ⌝ }
     ensures { λ _. ⌜ now (room .exit) ≡ roomAfter (fileWords (now (sheet .entry))) (now (room .entry)) ⌝ }
 {
-    let r = answers::numbers_of(translate(sheet, room));
-    *number = r.number;
-    *a = r.a;
-    *b = r.b;
+    let made = answers::numbers_of(translate(sheet, room));
+    *number = made.number;
+    *a = made.a;
+    *b = made.b;
 }
 
 // For C: opens a reader over one timeline of a plan, in lent words.
@@ -121,10 +121,10 @@ pub extern "C" fn tteokbiran_open(
     let opened = reader::open(book, plan, line);
     let answer = opened.answer;
     let at = opened.at;
-    let r = answers::numbers_of(answer);
-    *number = r.number;
-    *a = r.a;
-    *b = r.b;
+    let told = answers::numbers_of(answer);
+    *number = told.number;
+    *a = told.a;
+    *b = told.b;
     *token = at.token;
 }
 

@@ -1,5 +1,23 @@
 // Runs the specimens of document 01 that speak of files, a line each; the expected lines are in this crate's stdout. Those that 01 stars,
 // the first ten, are proved in claims too.
+
+// Judges a sheet, read directly, and a plan by their files' names, and prints the line.
+fn judge_sheet(sheet: &[u8], plan: &[u8]) {
+    let mut s = [0u8; 65540];
+    let mut p = [0u8; 65540];
+    let m = files::slurp(sheet, &mut s);
+    let n = files::slurp(plan, &mut p);
+    files::show(front::judge_sheet(&s[..m], &p[..n]));
+}
+
+// Translates a sheet in a room of 105 words, one too few for the specimen that it is for, and prints the line.
+fn translate_short(sheet: &[u8]) {
+    let mut s = [0u8; 65540];
+    let m = files::slurp(sheet, &mut s);
+    let mut room = [0u32; 105];
+    files::show(front::translate(&s[..m], &mut room));
+}
+
 fn main() {
     // P1, P2, the empty plan
     files::judge(b"book.bin", b"p1.bin");
@@ -21,12 +39,12 @@ fn main() {
     files::judge(b"book.bin", b"last.bin");
     // E's rule as a sheet: in a room for 16,384 words, and for 105
     files::translate(b"sheet.bin", b"made.bin", b"made.bin.new");
-    files::translate_short(b"sheet.bin");
+    translate_short(b"sheet.bin");
     // the book that it became and the sheet itself judge alike
     files::judge(b"made.bin", b"p1.bin");
-    files::judge_sheet(b"sheet.bin", b"p1.bin");
+    judge_sheet(b"sheet.bin", b"p1.bin");
     files::judge(b"made.bin", b"p2.bin");
-    files::judge_sheet(b"sheet.bin", b"p2.bin");
+    judge_sheet(b"sheet.bin", b"p2.bin");
     // sets of 8 and 8 relations, of 5 and 13, and eight of 13
     files::translate(b"eight.bin", b"made8.bin", b"made.bin.new");
     files::translate(b"thirteen.bin", b"made13.bin", b"made.bin.new");

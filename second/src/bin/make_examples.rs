@@ -36,16 +36,28 @@ fn sheet(folder: &'static str, plan: &[u32], expected: Answer, what: &'static st
     Example { folder, sheet: true, book, plan, expected, what }
 }
 
-fn deepest() -> Example {
-    let (book, plan) = load::deepest();
-    Example {
-        folder: "deepest",
-        sheet: false,
-        book,
-        plan,
-        expected: [12, 0, 511],
-        what: "Four names whose only tokens stand last on full lines: the search is as deep as it gets.",
-    }
+fn deepest() -> [Example; 2] {
+    let ((book, plan), (sheet, long_trigger)) = (load::deepest(), load::deepest_sheet());
+    [
+        Example {
+            folder: "deepest",
+            sheet: false,
+            book,
+            plan,
+            expected: [12, 0, 0],
+            what: "Four names whose only tokens stand last on full lines: \
+                   the search in a book goes as deep as it can.",
+        },
+        Example {
+            folder: "deepest-sheet",
+            sheet: true,
+            book: sheet,
+            plan: long_trigger,
+            expected: [12, 0, 0],
+            what: "Four names that stand first or last on full lines, and a set that no order settles: \
+                   the search in a sheet, and the translator, go as deep as they can.",
+        },
+    ]
 }
 
 /// The words with one more at the end, the total being right.
@@ -57,8 +69,7 @@ fn one_more(words: &[u32]) -> Vec<u32> {
 }
 
 fn all() -> Vec<Example> {
-    vec![
-        deepest(),
+    let mut list = vec![
         e(
             "accepted",
             P2.to_vec(),
@@ -142,7 +153,17 @@ fn all() -> Vec<Example> {
             "The same rule as a sheet accepts the plan; \
              translating it prints 0 106 4, and the book it makes gives the same line.",
         ),
-    ]
+    ];
+    list.extend(deepest());
+    list.push(Example {
+        folder: "largest-sheet",
+        sheet: true,
+        book: load::largest_sheet(),
+        plan: load::largest_sheet_plan(),
+        expected: [0, 68, 0],
+        what: "A sheet whose translation has 16,384 words, the most there may be: it prints 0 16384 888.",
+    });
+    list
 }
 
 fn write(root: &Path, example: &Example) -> io::Result<()> {

@@ -90,14 +90,35 @@ pub fn names(names: u32, tokens: usize, chained: bool) -> (Vec<u32>, Vec<u32>) {
     (draft.words(), plan_words(&lines))
 }
 
-/// Four names whose only tokens stand last on full lines, and an atom that
-/// never holds: the proved search is then as deep as it gets.
+/// Full lines for four names, each with the value 1 only where `at` says.
+fn four_names(trigger: Vec<[u32; 2]>, at: fn(u32) -> bool) -> Vec<u32> {
+    let line: Vec<[u32; 2]> = (0..512).map(|i| [u32::from(at(i)), 1]).collect();
+    let mut lines = vec![line; 5];
+    lines[0] = trigger;
+    plan_words(&lines)
+}
+
+const FOUR_NAMES: [[u32; 2]; 4] = [[1, 1], [2, 1], [3, 1], [4, 1]];
+
+/// Four names whose only tokens stand last on full lines, and an atom on the
+/// last name alone that never holds, so that no bound between two names says it.
 pub fn deepest() -> (Vec<u32>, Vec<u32>) {
     let mut draft = Draft::new(Kind::Book, vec![vec![[1, N, 3]; 2]; 5]);
-    let names = [[1, 1], [2, 1], [3, 1], [4, 1]];
-    draft.rule([0, 1], vec![alternative(&names, &[&[0, 1, 1, 4, LAST, N]])]);
-    let line: Vec<[u32; 2]> = (0..512).map(|i| [u32::from(i == 511), 1]).collect();
-    (draft.words(), plan_words(&vec![line; 5]))
+    draft.rule([0, 1], vec![alternative(&FOUR_NAMES, &[&[0, 4, 1, 4, LAST, N]])]);
+    (draft.words(), four_names(vec![[1, 1]], |i| i == 511))
+}
+
+/// Four names with tokens first and last on full lines. The last may stand
+/// before or after the trigger, which leaves no room for either, and no end of
+/// it is always before or always after one of the trigger's: so nothing can be
+/// said before all are tried. The second rule is as deep for the translator:
+/// the most constraints, each with the last relation alone.
+pub fn deepest_sheet() -> (Vec<u32>, Vec<u32>) {
+    let mut draft = Draft::new(Kind::Sheet, vec![vec![[1, N, 3]; 2]; 5]);
+    draft.rule([0, 1], vec![alternative(&FOUR_NAMES, &[&[0, 4, 1 << 0 | 1 << 12]])]);
+    let last: &[u32] = &[0, 1, 1 << 12];
+    draft.rule([0, 1], vec![alternative(&FOUR_NAMES, &[last; 8])]);
+    (draft.words(), four_names(vec![[1, 512]], |i| i == 0 || i == 511))
 }
 
 /// A sheet whose translation has 16,384 words and 888 alternatives.
@@ -113,4 +134,9 @@ pub fn largest_sheet() -> Vec<u32> {
         draft.rule([rule % 16, 31], alternatives);
     }
     draft.words()
+}
+
+/// Tokens for each trigger and name of that sheet.
+pub fn largest_sheet_plan() -> Vec<u32> {
+    plan_words(&(0..16).map(|line| [line, line + 16, 31].map(|value| [value, 1]).into()).collect())
 }

@@ -6,3 +6,4 @@ pub mod extreme;
 pub mod load;
 pub mod random;
 pub mod rng;
+pub mod slow;

@@ -3,7 +3,7 @@
 use super::draft::{AlternativeDraft, Draft, Lines, NO_TRIGGER};
 use super::rng::Rng;
 use crate::layout::{Kind, LAST, N};
-use crate::plan::Span;
+use crate::placed::Span;
 use crate::sheet::relation;
 
 /// How large the parts may get.

@@ -1,8 +1,8 @@
--- `files::first_bytes` is safe: the part that it hands on is as long as it says. Assumes nothing.
+-- `files::first_bytes` meets its contract: a list that isn't longer than n is its own first n. Assumes nothing.
 use mathlib.Core.Path.{sym}
 use native.Mathlib.Omega.{arith}
 use borrow.Author.Needs.{needs}
-use lib.Seq.{length-take-le}
+use lib.Seq.{length-take-le, take-all}
 use Rattle.files.proofs.first_bytes.Statement.{statement}
 use Rattle.files.proofs.first_bytes.Tie as tie
 
@@ -12,4 +12,4 @@ first-bytes-spec =
     (tie.spec
     (λ c. sym (length-take-le (c .before .before .args .n) (c .before .before .args .s .now) (omega arith)))
     (λ c. search needs)
-    (λ c. search needs))
+    (λ c. sym (take-all (c .before .args .n) (c .before .args .s .now) (omega (arith, c .if1 .left)))))
