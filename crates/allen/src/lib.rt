@@ -1,47 +1,44 @@
 // Allen's thirteen relations: which one holds of two stretches of time.
 ghost use mathlib.Core.Path.{_≡_};
+ghost use Prim.Native.Nat.{_≤_};
 ghost use Rattle.allen.specs.Relation.{relationOf};
+ghost use Rattle.allen.specs.Order.{orderOf, Across};
 
-// The relation in which the stretch from s to e stands to that from s2 to e2, found by going down the thirteen conditions; 13
-// where none holds, which is never so of two stretches that have a length.
+// The three-way order of two ends: 0 where a is the earlier, 1 where they are one, 2 where b is.
+fn order(a: u64, b: u64) -> u32
+    ensures { λ r. ⌜ (r ≡ orderOf a b) × (r ≤ 2) ⌝ }
+{
+    if a < b {
+        return 0;
+    }
+    if a == b { 1 } else { 2 }
+}
+
+// The relation of two stretches of which left ends after right starts: by the order of their starts and that of their ends, and
+// where left is the later in both, by that of right's end and left's start.
+fn across(s: u64, e: u64, s2: u64, e2: u64) -> u32
+    ensures { λ r. ⌜ Across s e s2 e2 r ⌝ }
+{
+    let starts = order(s, s2);
+    let ends = order(e, e2);
+    if starts + ends == 4 {
+        return 12 - order(e2, s);
+    }
+    2 + 3 * starts + ends
+}
+
+// The relation in which the stretch from s to e stands to that from s2 to e2. What 10 and 11 are found by says that left ends
+// after right starts; for the others the order of these two is asked, and 0 and 1 are that order itself.
 pub fn relation(s: u64, e: u64, s2: u64, e2: u64) -> u32
     ensures { λ r. ⌜ r ≡ relationOf s e s2 e2 ⌝ }
 {
-    if e < s2 {
-        return 0;
+    let k = across(s, e, s2, e2);
+    if (k == 10) | (k == 11) {
+        return k;
     }
-    if e == s2 {
-        return 1;
+    let near = order(e, s2);
+    if near == 2 {
+        return k;
     }
-    if (s < s2) & ((s2 < e) & (e < e2)) {
-        return 2;
-    }
-    if (s < s2) & (e == e2) {
-        return 3;
-    }
-    if (s < s2) & (e2 < e) {
-        return 4;
-    }
-    if (s == s2) & (e < e2) {
-        return 5;
-    }
-    if (s == s2) & (e == e2) {
-        return 6;
-    }
-    if (s == s2) & (e2 < e) {
-        return 7;
-    }
-    if (s2 < s) & (e < e2) {
-        return 8;
-    }
-    if (s2 < s) & (e == e2) {
-        return 9;
-    }
-    if (s2 < s) & ((s < e2) & (e2 < e)) {
-        return 10;
-    }
-    if e2 == s {
-        return 11;
-    }
-    if e2 < s { 12 } else { 13 }
+    near
 }
