@@ -9,6 +9,7 @@ use lib.ListN.{take, drop, set, replicate}
 use Rattle.answers.specs.declared.Numbers.{Numbers}
 use Rattle.answers.specs.Numbers.{numbers, noFault, orElse}
 use Rattle.words.specs.Lists.{all}
+use Rattle.clock.specs.Clock.{noLimit}
 use Rattle.words.specs.Write.{puts}
 use Rattle.words.specs.Least.{least}
 use Rattle.layout.specs.Layout.{fifthWidth, fifthMost, begins, headerWrong, starts, owner}
@@ -20,11 +21,11 @@ abbrev pub bookE : List ℕ
 bookE =
     1 ∷ 52 ∷ 2 ∷ 14 ∷ 4 ∷ 18 ∷ 1 ∷ 30 ∷ 1 ∷ 34 ∷ 1 ∷ 38 ∷ 2 ∷ 40
     ∷ 0 ∷ 2 ∷ 2 ∷ 2
-    ∷ 1 ∷ 4294967295 ∷ 2 ∷ 1 ∷ 4294967295 ∷ 1 ∷ 1 ∷ 4294967295 ∷ 2 ∷ 5 ∷ 60 ∷ 3
+    ∷ 1 ∷ noLimit ∷ 2 ∷ 1 ∷ noLimit ∷ 1 ∷ 1 ∷ noLimit ∷ 2 ∷ 5 ∷ 60 ∷ 3
     ∷ 1 ∷ 1 ∷ 0 ∷ 1
     ∷ 0 ∷ 1 ∷ 0 ∷ 2
     ∷ 0 ∷ 1
-    ∷ 0 ∷ 1 ∷ 0 ∷ 0 ∷ 0 ∷ 4294967295 ∷ 1 ∷ 0 ∷ 1 ∷ 1 ∷ 0 ∷ 4294967295 ∷ []
+    ∷ 0 ∷ 1 ∷ 0 ∷ 0 ∷ 0 ∷ noLimit ∷ 1 ∷ 0 ∷ 1 ∷ 1 ∷ 0 ∷ noLimit ∷ []
 
 -- it is good
 pub E-good : bookFault 1 bookE ≡ noFault
@@ -36,7 +37,7 @@ abbrev pub sheetE : List ℕ
 sheetE =
     2 ∷ 43 ∷ 2 ∷ 14 ∷ 4 ∷ 18 ∷ 1 ∷ 30 ∷ 1 ∷ 34 ∷ 1 ∷ 38 ∷ 1 ∷ 40
     ∷ 0 ∷ 2 ∷ 2 ∷ 2
-    ∷ 1 ∷ 4294967295 ∷ 2 ∷ 1 ∷ 4294967295 ∷ 1 ∷ 1 ∷ 4294967295 ∷ 2 ∷ 5 ∷ 60 ∷ 3
+    ∷ 1 ∷ noLimit ∷ 2 ∷ 1 ∷ noLimit ∷ 1 ∷ 1 ∷ noLimit ∷ 2 ∷ 5 ∷ 60 ∷ 3
     ∷ 1 ∷ 1 ∷ 0 ∷ 1
     ∷ 0 ∷ 1 ∷ 0 ∷ 1
     ∷ 0 ∷ 1
@@ -48,7 +49,7 @@ moreE = set (puts (take 38 bookE ++ (1 ∷ 0 ∷ 2 ∷ 0 ∷ []) ++ drop 38 book
 
 -- E with a rule that has no trigger
 abbrev freeE : List ℕ
-freeE = puts bookE 30 (4294967295 ∷ 0 ∷ [])
+freeE = puts bookE 30 (noLimit ∷ 0 ∷ [])
 
 -- edition, words, and the numbers that the fault table states
 abbrev pub specimens : List (ℕ × List ℕ × Numbers)
@@ -84,7 +85,7 @@ specimens =
     -- rules: trigger variable, trigger value, alternatives
     ∷ (1, set bookE 30 2, numbers 4 2 0)
     ∷ (1, set bookE 31 2, numbers 4 2 0)
-    ∷ (1, set bookE 30 4294967295, numbers 4 2 0)
+    ∷ (1, set bookE 30 noLimit, numbers 4 2 0)
     ∷ (1, set bookE 33 0, numbers 4 2 0)
     ∷ (1, moreE, numbers 4 2 1)
     -- alternatives: names and atoms, and both used up

@@ -20,8 +20,19 @@ use Rattle.lines.specs.Lines.{lineCount, valueOf, durationOf, startOf}
 use Rattle.plan.specs.declared.Line.{Line}
 use Rattle.plan.specs.declared.Value.{Value}
 use Rattle.plan.specs.Fault.{durationOutside, valuePlace, notSuccessor, tokenFault, tokenWrong, firstToken, lineWrong, firstLine, tokensFault}
-use Rattle.plan.specs.Judge.{Constants, valueAt, breaksOf, faultOf, setBefore, Along, lineNumber}
+use Rattle.plan.specs.Judge.{Constants, valueAt, breaksOf, faultOf, lineNumber}
 use Rattle.plan.proofs.Tokens.{lateAt, earlyAt, token-ranges, token-early, token-last, bad-token}
+
+-- the successor set of the token before token j, or 0 before the first
+pub setBefore : List ℕ → List ℕ → ℕ → ℕ → ℕ
+setBefore b p v zero = 0
+setBefore b p v (suc j) = word b (valuePlace b v (valueOf p v j) + 2)
+
+-- what is known before token j: no token before it is faulty, where it starts, and what may stand there
+pub record Along (b p : List ℕ) (v j start set : ℕ) : Type 0 where
+  pub clear : Clear (tokenWrong b p v) j
+  pub starts : start ≡ startOf p v j
+  pub follows : set ≡ setBefore b p v j
 
 module _ (b p : List ℕ) (v : ℕ) where
   -- what the code has of token j: value, duration, what the book has of the value, and the fault

@@ -10,7 +10,7 @@ use Rattle.words.specs.Least.{least}
 use Rattle.clock.specs.Clock.{lastTick, noLimit, inBounds}
 use Rattle.layout.specs.Layout.{count, recordAt, field}
 use Rattle.records.specs.Wrong.{valueUnknown}
-use Rattle.lines.specs.Lines.{lineFirst, lineCount}
+use Rattle.lines.specs.Lines.{lineCount}
 pub use Rattle.lines.specs.Lines.{valueOf, durationOf}
 unfoldable pub use Rattle.lines.specs.Lines.{startOf}
 pub use Rattle.lines.specs.Fault.{firstHead}

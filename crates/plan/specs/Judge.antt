@@ -1,18 +1,16 @@
--- What the code of `plan` computes on the way to a token's fault: a line's constants, a token's fault from plain numbers, and what is
--- carried from token to token. Assumes nothing.
+-- What the code of `plan` computes on the way to a token's fault: a line's constants, and a token's fault from plain numbers. Assumes nothing.
 use mathlib.Core.Path.{_≡_}
 use mathlib.Core.Bool.{Bool, false, _&&_, not, cond}
 use mathlib.Core.List.{List}
-use Prim.Native.Nat.{ℕ, zero, suc, _+_, _*_, _^_, _≤_, _<_}
+use Prim.Native.Nat.{ℕ, _+_, _*_, _^_, _≤_, _<_}
 use lib.Dec.{leb}
 use lib.ListN.{length}
 use Rattle.words.specs.Words.{word, inSet}
-use Rattle.words.specs.Least.{Clear}
 use Rattle.layout.specs.Layout.{count, offset, field, valuesOf}
-use Rattle.lines.specs.Lines.{lineCount, linePlace, valueOf, startOf}
+use Rattle.lines.specs.Lines.{lineCount, linePlace}
 use Rattle.plan.specs.declared.Line.{Line}
 use Rattle.plan.specs.declared.Value.{Value}
-use Rattle.plan.specs.Fault.{valuePlace, outsideOf, tokenFault, tokenWrong, firstToken, lineWrong}
+use Rattle.plan.specs.Fault.{outsideOf, tokenFault, firstToken, lineWrong}
 
 -- the first `inside` of a variable's values, 3 words each from a place on, are wholly in the book
 pub record Inside (b : List ℕ) (base values inside : ℕ) : Type 0 where
@@ -46,17 +44,6 @@ numberOf unknown outside breaks late = cond unknown 8 (cond outside 9 (cond brea
 -- the fault of a token with value x and duration d, behind a token with the successor set `set` or the first, but for its end
 unfoldable pub faultOf : Value → ℕ → ℕ → Bool → ℕ → ℕ
 faultOf value x d first set = numberOf (value .unknown) (outsideOf (value .least) (value .greatest) d) (breaksOf first set x) false
-
--- the successor set of the token before token j, or 0 before the first
-unfoldable pub setBefore : List ℕ → List ℕ → ℕ → ℕ → ℕ
-setBefore b p v zero = 0
-setBefore b p v (suc j) = word b (valuePlace b v (valueOf p v j) + 2)
-
--- what is known before token j: no token before it is faulty, where it starts, and what may stand there
-pub record Along (b p : List ℕ) (v j start set : ℕ) : Type 0 where
-  pub clear : Clear (tokenWrong b p v) j
-  pub starts : start ≡ startOf p v j
-  pub follows : set ≡ setBefore b p v j
 
 -- the fault number of line v: that of its first faulty token, or 0
 unfoldable pub lineNumber : List ℕ → List ℕ → ℕ → ℕ

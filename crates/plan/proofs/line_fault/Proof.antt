@@ -4,8 +4,7 @@ use mathlib.Core.Path.{refl, sym, _∙_}
 use Prim.Native.Nat.{_-_, _≤_}
 use native.Mathlib.Omega.{arith}
 use borrow.Author.Needs.{needs}
-use Rattle.plan.specs.Judge.{Along}
-use Rattle.plan.proofs.Laws.{read, along-none, along-more, faulty, past, faultless}
+use Rattle.plan.proofs.Laws.{Along, read, along-none, along-more, faulty, past, faultless}
 use Rattle.plan.proofs.line_fault.Statement.{statement}
 use Rattle.plan.proofs.line_fault.Tie as tie
 
