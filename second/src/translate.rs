@@ -1,9 +1,7 @@
 //! From a sheet to the book that says the same in atoms.
 
 use crate::decode::{decode, Book};
-use crate::layout::{
-    tables, Answer, Kind, COUNTS, HEADER, MAX_ALTERNATIVES, MAX_ATOMS, MAX_WORDS, N,
-};
+use crate::layout::{tables, Answer, Kind, COUNTS, HEADER, MAX_ALTERNATIVES, MAX_WORDS, N};
 use crate::sheet::{Constraint, RELATIONS};
 
 /// Start and end of left, start and end of right.
@@ -53,10 +51,9 @@ impl Choice {
         Choice { left: record[0], right: record[1], relations }
     }
 
-    /// Atoms over all its relations, and the most that one of them needs.
-    fn atoms(&self) -> (u64, u64) {
-        let sizes = self.relations.iter().map(|&r| ATOMS[r].len() as u64);
-        (sizes.clone().sum(), sizes.max().unwrap_or(0))
+    /// Atoms over all its relations.
+    fn atoms(&self) -> u64 {
+        self.relations.iter().map(|&r| ATOMS[r].len() as u64).sum()
     }
 
     fn write(&self, relation: usize, out: &mut Vec<u32>) {
@@ -85,22 +82,11 @@ fn product(choices: &[Choice]) -> u64 {
 
 /// Counts of tables 3, 4 and 5 of the translation.
 fn counts(sheet: &Book<Constraint>, choices: &[Choice]) -> Result<[u64; 3], Answer> {
-    let rules = || sheet.rules.iter().zip(0u32..);
-    for (rule, number) in rules() {
+    for (rule, number) in sheet.rules.iter().zip(0u32..) {
         let own = &sheet.alternatives[rule.alternatives.clone()];
         let sum: u64 = own.iter().map(|a| product(&choices[a.tests.clone()])).sum();
         if sum > u64::from(MAX_ALTERNATIVES) {
             return Err([13, number, 0]);
-        }
-    }
-    // Eight constraints give 24 atoms at most, so this one is never seen.
-    for (rule, number) in rules() {
-        let too_many = |a: &crate::decode::Alternative| {
-            let most: u64 = choices[a.tests.clone()].iter().map(|c| c.atoms().1).sum();
-            most > u64::from(MAX_ATOMS)
-        };
-        if sheet.alternatives[rule.alternatives.clone()].iter().any(too_many) {
-            return Err([16, number, 0]);
         }
     }
     let mut sums = [0; 3];
@@ -110,8 +96,7 @@ fn counts(sheet: &Book<Constraint>, choices: &[Choice]) -> Result<[u64; 3], Answ
         sums[0] += times;
         sums[1] += times * alternative.names.len() as u64;
         // Each relation of a constraint meets each choice of the others.
-        sums[2] +=
-            own.iter().map(|c| c.atoms().0 * (times / c.relations.len() as u64)).sum::<u64>();
+        sums[2] += own.iter().map(|c| c.atoms() * (times / c.relations.len() as u64)).sum::<u64>();
     }
     for (sum, table) in sums.iter().zip(3u32..) {
         if *sum > u64::from(COUNTS[table as usize].1) {

@@ -5,7 +5,7 @@ use mathlib.Core.List.{[], _∷_}
 use lib.ListN.{getD}
 use Rattle.answers.specs.declared.Numbers.{Numbers}
 use Rattle.answers.specs.declared.Answer.{Answer}
-use Rattle.answers.specs.declared.Answer.the-variants.{Done, BookLength, BookHeader, BookEnd, BookRecord, PlanLength, PlanHeader, PlanEnd, ValueUnknown, DurationOutside, NotSuccessor, PastLastTick, RuleNotMet, TooManyAlternatives, TooLong, RoomTooShort, TooManyAtoms, NoSuchTimeline}
+use Rattle.answers.specs.declared.Answer.the-variants.{Done, BookLength, BookHeader, BookEnd, BookRecord, PlanLength, PlanHeader, PlanEnd, ValueUnknown, DurationOutside, NotSuccessor, PastLastTick, RuleNotMet, TooManyAlternatives, TooLong, RoomTooShort, NoSuchTimeline}
 use Rattle.answers.specs.Numbers.{numbersOf}
 
 -- the answer with these numbers
@@ -28,7 +28,8 @@ answerOf x =
     ∷ TooManyAlternatives (x .a)
     ∷ TooLong (x .a)
     ∷ RoomTooShort (x .a)
-    ∷ TooManyAtoms (x .a)
+    -- 16 isn't used
+    ∷ BookLength
     ∷ NoSuchTimeline
     ∷ [])
     (x .number) BookLength
@@ -51,7 +52,6 @@ answer-back (RuleNotMet rule token) = refl
 answer-back (TooManyAlternatives rule) = refl
 answer-back (TooLong table) = refl
 answer-back (RoomTooShort words) = refl
-answer-back (TooManyAtoms rule) = refl
 answer-back NoSuchTimeline = refl
 
 -- THE LAW: two answers with the same numbers are the same answer

@@ -8,7 +8,7 @@ use lib.Dec.{eqb}
 use borrow.Author.Tests.{eq-eqb, ne-eqb, eqb-true, eqb-false}
 use Rattle.answers.specs.declared.Numbers.{Numbers}
 use Rattle.answers.specs.declared.Answer.{Answer}
-use Rattle.answers.specs.declared.Answer.the-variants.{Done, BookLength, BookHeader, BookEnd, BookRecord, PlanLength, PlanHeader, PlanEnd, ValueUnknown, DurationOutside, NotSuccessor, PastLastTick, RuleNotMet, TooManyAlternatives, TooLong, RoomTooShort, TooManyAtoms, NoSuchTimeline}
+use Rattle.answers.specs.declared.Answer.the-variants.{Done, BookLength, BookHeader, BookEnd, BookRecord, PlanLength, PlanHeader, PlanEnd, ValueUnknown, DurationOutside, NotSuccessor, PastLastTick, RuleNotMet, TooManyAlternatives, TooLong, RoomTooShort, NoSuchTimeline}
 
 -- "Each answer is three numbers: number, a, b"
 abbrev pub numbers : ℕ → ℕ → ℕ → Numbers
@@ -32,7 +32,6 @@ numbersOf (RuleNotMet rule token) = numbers 12 rule token
 numbersOf (TooManyAlternatives rule) = numbers 13 rule 0
 numbersOf (TooLong table) = numbers 14 table 0
 numbersOf (RoomTooShort words) = numbers 15 words 0
-numbersOf (TooManyAtoms rule) = numbers 16 rule 0
 numbersOf NoSuchTimeline = numbers 17 0 0
 
 -- nothing is wrong so far

@@ -21,7 +21,6 @@ pub enum Answer {
     TooManyAlternatives { rule: u32 },
     TooLong { table: u32 },
     RoomTooShort { words: u32 },
-    TooManyAtoms { rule: u32 },
     NoSuchTimeline,
 }
 
@@ -60,7 +59,6 @@ pub fn numbers_of(r: Answer) -> Numbers
         Answer::TooManyAlternatives { rule } => row(13, rule, 0),
         Answer::TooLong { table } => row(14, table, 0),
         Answer::RoomTooShort { words } => row(15, words, 0),
-        Answer::TooManyAtoms { rule } => row(16, rule, 0),
         Answer::NoSuchTimeline => row(17, 0, 0),
     }
 }

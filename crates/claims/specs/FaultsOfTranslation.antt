@@ -11,21 +11,19 @@ use lib.Dec.{ltb}
 use lib.ListN.{length, getD, take}
 use borrow.Author.Tests.{ltb-true, ltb-false, lt-ltb, le-ltb}
 use Rattle.answers.specs.declared.Numbers.{Numbers}
-use Rattle.answers.specs.Numbers.{numbers, noFault, orElse, else-next}
+use Rattle.answers.specs.Numbers.{numbers, noFault}
 use Rattle.words.specs.Lists.{all}
 use Rattle.words.specs.Least.{first, first-least}
 use Rattle.book.specs.Encode.{altsOf, namesOf, asksOf}
 use Rattle.book.specs.Sound.{Sound}
 use Rattle.book.specs.Fault.{bookFault}
 use Rattle.verdict.specs.Judged.{noRule}
-use Rattle.translator.specs.Translation.{rulesFor, translated, tooMany, tooWide, ruleFault, sizeFault, roomFault, translation}
-use Rattle.claims.specs.Laws.{else-agree}
+use Rattle.translator.specs.Translation.{rulesFor, translated, tooMany, ruleFault, sizeFault, roomFault, translation}
 use Rattle.claims.specs.Stages.{Stage, Own, Owned, Passed, firstOf, stage, noStage, disjoint, bookStages, at-stage, at-last, own-test, book-owned, else-else}
 use Rattle.claims.specs.Wrongs.{First, None}
 use Rattle.claims.specs.WrongTests.{none-is, first-is}
 use Rattle.claims.specs.FaultsOfTables.{given, not-given, book-none, with-book}
 use Rattle.claims.specs.Faults.{BookTable, book-table}
-use Rattle.claims.specs.FewAtoms.{never-wide}
 use Rattle.claims.specs.Taken.{Sizes}
 
 -- ---- what is claimed
@@ -66,7 +64,7 @@ pub record TranslationTable (s : List ℕ) (room : ℕ) (answer : Numbers) : Typ
 
 -- the translator's, after those of the sheet
 abbrev ownStages : List ℕ → ℕ → List Stage
-ownStages s room = stage 13 14 (ruleFault 13 tooMany (rulesFor s)) ∷ stage 14 15 (sizeFault s) ∷ stage 15 16 (roomFault s room) ∷ []
+ownStages s room = stage 13 14 (ruleFault (rulesFor s)) ∷ stage 14 15 (sizeFault s) ∷ stage 15 16 (roomFault s room) ∷ []
 
 abbrev doneNumbers : List ℕ → Numbers
 doneNumbers s = numbers 0 (length (translated s)) (length (altsOf (rulesFor s)))
@@ -102,13 +100,10 @@ module _ (s : List ℕ) (room : ℕ) where
   unfolding disjoint all
   own-apart = refl
 
-  -- the translator's answer is that of the stages: 16 is never given
+  -- the translator's answer is that of the stages
   in-order : translation s room ≡ firstOf (bookStages 2 s (ownStages s room)) (doneNumbers s)
   unfolding translation firstOf bookFault
-  in-order =
-      else-agree (bookFault 2 s) _ _
-      (λ (h : bookFault 2 s .number ≡ 0). ap (orElse (ruleFault 13 tooMany (rulesFor s))) (else-next _ _ (never-wide s (book-none 2 s .0 h))))
-      ∙ simp else-else
+  in-order = simp else-else
 
 -- ---- the stages opened
 
@@ -167,7 +162,7 @@ module _ (s : List ℕ) (room : ℕ) where
   unfolding tooMany
   many-test k = (ltb-true _ _, lt-ltb _ _)
 
-  many-none : (ruleFault 13 tooMany (rulesFor s) .number ≡ 0) ↔ None (length (rulesFor s)) (TooMany s)
+  many-none : (ruleFault (rulesFor s) .number ≡ 0) ↔ None (length (rulesFor s)) (TooMany s)
   unfolding ruleFault
   many-none =
       let k : ℕ = first tooMany (rulesFor s) in
@@ -176,7 +171,7 @@ module _ (s : List ℕ) (room : ℕ) where
       (none-is (length (rulesFor s)) (λ k. tooMany (getD (rulesFor s) k noRule)) (TooMany s) many-test) in
       (λ h. n .0 (g .0 h), λ h. g .1 (n .1 h))
 
-  many-is : (rule : ℕ) → (ruleFault 13 tooMany (rulesFor s) ≡ numbers 13 rule 0) ↔ First (length (rulesFor s)) (TooMany s) rule
+  many-is : (rule : ℕ) → (ruleFault (rulesFor s) ≡ numbers 13 rule 0) ↔ First (length (rulesFor s)) (TooMany s) rule
   unfolding ruleFault
   many-is rule =
       let k : ℕ = first tooMany (rulesFor s) in

@@ -32,7 +32,7 @@ pub mod SheetsMet
 pub mod RulesMet
 pub mod Expansion
 pub mod Decoded
-pub mod FewAtoms
 pub mod SamePlan
 pub mod Translated
+pub mod FewAtoms
 pub mod TranslatedRules

@@ -27,7 +27,7 @@ use Rattle.allen.specs.Atoms.{atomsOf}
 use Rattle.matching.specs.Met.{put, tokenTime, timeOf, atomHolds, constraintHolds, place, alternativeMet, met}
 use Rattle.verdict.specs.Judged.{counted, triggerLine, isTrigger, examined, unmet, firstUnmet, ruleUnmet, rulesFault, judged, judgedSheet}
 use Rattle.translator.specs.Expand.{keep, relationsIn, choices, atomsFor, expand, translate}
-use Rattle.translator.specs.Translation.{rulesFor, translated, tooMany, tooWide, ruleFault, sizeFault, roomFault, translation}
+use Rattle.translator.specs.Translation.{rulesFor, translated, tooMany, ruleFault, sizeFault, roomFault, translation}
 
 -- "P1"
 abbrev pub planP1 : List ℕ
@@ -128,5 +128,5 @@ specimens =
 
 -- THE CLAIM: every specimen is as stated
 pub all-stand : all stands specimens ≡ true
-unfolding all any flatMap orElse least first run rows inSet inBounds fifthWidth fifthMost begins headerWrong starts owner setWrong valueTests fifthTestsOf fifthTests recordWrong leaves tableWrong book.lengthFault book.headerFault book.endFault book.recordFault book.bookFault nameAt atomAt constraintAt alternativeAt ruleAt rulesOf bookOf tokensFrom lineOf plan.lengthFault plan.sumBefore plan.headWrong plan.headFault plan.endFault plan.startOf plan.durationOutside plan.notSuccessor plan.tokenFault plan.tokenWrong plan.firstToken plan.lineWrong plan.tokensFault plan.planFault relationOf atomsOf put tokenTime timeOf atomHolds constraintHolds place alternativeMet met counted triggerLine isTrigger examined unmet firstUnmet ruleUnmet rulesFault judged judgedSheet keep relationsIn choices atomsFor expand translate rulesFor translated tooMany tooWide ruleFault sizeFault roomFault translation
+unfolding all any flatMap orElse least first run rows inSet inBounds fifthWidth fifthMost begins headerWrong starts owner setWrong valueTests fifthTestsOf fifthTests recordWrong leaves tableWrong book.lengthFault book.headerFault book.endFault book.recordFault book.bookFault nameAt atomAt constraintAt alternativeAt ruleAt rulesOf bookOf tokensFrom lineOf plan.lengthFault plan.sumBefore plan.headWrong plan.headFault plan.endFault plan.startOf plan.durationOutside plan.notSuccessor plan.tokenFault plan.tokenWrong plan.firstToken plan.lineWrong plan.tokensFault plan.planFault relationOf atomsOf put tokenTime timeOf atomHolds constraintHolds place alternativeMet met counted triggerLine isTrigger examined unmet firstUnmet ruleUnmet rulesFault judged judgedSheet keep relationsIn choices atomsFor expand translate rulesFor translated tooMany ruleFault sizeFault roomFault translation
 all-stand = refl

@@ -183,16 +183,15 @@ module _ (s : List ℕ) (sound : Sound 2 s) where
 
   -- its rules are as they must be, and so are the records of its tables
   rules-all : (rules : List (Rule Constraint)) → All (RuleFine ConstraintFine 2 s) rules → All (λ r. length (r .alternatives) ≤ 64) (map translate rules)
-      → All (λ r. All (λ a. length (a .asks) ≤ 32) (r .alternatives)) (map translate rules) → All (RuleFine AtomFine 1 (translated s)) (map translate rules)
-  rules-all [] h few narrow = tt
-  rules-all (r ∷ rules) h few narrow =
-      (translate-fine s (translated s) exist r (h .0) (few .0) (narrow .0), rules-all rules (h .1) (few .1) (narrow .1))
+      → All (RuleFine AtomFine 1 (translated s)) (map translate rules)
+  rules-all [] h few = tt
+  rules-all (r ∷ rules) h few = (translate-fine s (translated s) exist r (h .0) (few .0), rules-all rules (h .1) (few .1))
 
   records-fine : Within s → RecordsFine atoms AtomFine 1 (translated s)
   unfolding rulesFor
   records-fine w =
       rules-fine atoms AtomFine 1 (translated s) rule-ranges name-ranges ask-ranges .0
-      (rw (read-back s sound) (rules-all (rulesOf constraints s) (sheet-rules sound) (w .rules) (w .alternatives)))
+      (rw (read-back s sound) (rules-all (rulesOf constraints s) (sheet-rules sound) (w .rules)))
 
   translated-sound : Within s → Sound 1 (translated s)
   unfolding translated bookOf atomAt fifthWidth

@@ -1,4 +1,4 @@
--- The rules that a good sheet's rules become are as a book's rules must be, but for the limits 13 and 16, which are asked for. Assumes nothing.
+-- The rules that a good sheet's rules become are as a book's rules must be, but for the limit 13, which is asked for. Assumes nothing.
 use mathlib.Core.Path.{_≡_, refl}
 use mathlib.Core.Bool.{Bool, true, false, cond}
 use mathlib.Core.Logic.{⊎-elim, inl, inr}
@@ -19,7 +19,8 @@ use Rattle.allen.specs.Relation.{thirteen}
 use Rattle.allen.specs.Atoms.{Term, start, end, _<·_, _=·_, relations, atomsOf}
 use Rattle.translator.specs.Expand.{keep, relationsIn, choices, atomsFor, expand, translate}
 use Rattle.claims.specs.Decoded.{NameFine, TriggerFine, AlternativeFine, RuleFine, ConstraintFine}
-use Rattle.claims.specs.Laws.{all-to, all-both, all-each, all-apply, all-map, all-flat, run-all}
+use Rattle.claims.specs.FewAtoms.{atoms-few}
+use Rattle.claims.specs.Laws.{all-to, all-both, all-each, all-map, all-flat, run-all}
 
 -- "left kind, left argument, right kind, right argument, lower, upper"
 pub record AtomFine (n : ℕ) (trigger : Bool) (a : Atom) : Type 0 where
@@ -116,21 +117,21 @@ some-choice n trigger (q ∷ qs) h =
     let rest = some-choice n trigger qs (h .1) in
     some-flat _ (relationsIn (q .set)) (some-relation (q .set) (h .0 .some) (h .0 .set)) (all-each _ (λ k. simp length-map rest) (relationsIn (q .set)))
 
--- ---- THE LAW: a sheet's rule that is as it must be becomes a book's rule that is, within the limits 13 and 16
+-- ---- THE LAW: a sheet's rule that is as it must be becomes a book's rule that is, within the limit 13
 
 module _ (s b : List ℕ) (exist : (v x : ℕ) → Exist 2 s v x → Exist 1 b v x) where
   trigger-same : (v x : ℕ) → TriggerFine 2 s v x → TriggerFine 1 b v x
   trigger-same v x h = ⊎-elim (λ q. inl q) (λ q. inr (exist v x q)) h
 
-  -- each alternative that one becomes, if it has at most 32 atoms
+  -- each alternative that one becomes
   expand-fine : (trigger : Bool) (a : Alternative Constraint) → AlternativeFine ConstraintFine 2 s trigger a
-      → All (λ c. length (c .asks) ≤ 32 → AlternativeFine AtomFine 1 b trigger c) (expand a)
+      → All (AlternativeFine AtomFine 1 b trigger) (expand a)
   unfolding expand fifthMost
   expand-fine trigger a h =
       all-map _ _
-      (λ ks l. record {
+      (λ ks. record {
         fewNames = h .fewNames;
-        fewAsks = l;
+        fewAsks = omega (arith, atoms-few (a .asks) ks, h .fewAsks);
         names = all-to (NameFine 2 s) (NameFine 1 b) (λ n. exist (n .variable) (n .value)) (a .names) (h .names);
         asks = atoms-fine _ trigger (a .asks) (h .asks) ks;
       })
@@ -141,10 +142,9 @@ module _ (s b : List ℕ) (exist : (v x : ℕ) → Exist 2 s v x → Exist 1 b v
   unfolding expand
   expand-some {trigger} a h = simp length-map (some-choice _ trigger (a .asks) (h .asks))
 
-  pub translate-fine : (r : Rule Constraint) → RuleFine ConstraintFine 2 s r → length (translate r .alternatives) ≤ 64
-      → All (λ c. length (c .asks) ≤ 32) (translate r .alternatives) → RuleFine AtomFine 1 b (translate r)
+  pub translate-fine : (r : Rule Constraint) → RuleFine ConstraintFine 2 s r → length (translate r .alternatives) ≤ 64 → RuleFine AtomFine 1 b (translate r)
   unfolding translate
-  translate-fine r h few narrow =
+  translate-fine r h few =
       record {
         trigger = trigger-same _ _ (h .trigger);
         some =
@@ -152,7 +152,5 @@ module _ (s b : List ℕ) (exist : (v x : ℕ) → Exist 2 s v x → Exist 1 b v
             (all-to (AlternativeFine ConstraintFine 2 s _) (λ a. 1 ≤ length (expand a)) expand-some (r .alternatives) (h .alternatives));
         few = few;
         alternatives =
-            all-apply _ _ (flatMap expand (r .alternatives))
-            (all-flat (AlternativeFine ConstraintFine 2 s _) _ expand (expand-fine _) (r .alternatives) (h .alternatives))
-            narrow;
+            all-flat (AlternativeFine ConstraintFine 2 s _) _ expand (expand-fine _) (r .alternatives) (h .alternatives);
       }

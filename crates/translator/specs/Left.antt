@@ -17,7 +17,6 @@ use Rattle.layout.specs.Layout.{count, offset}
 use Rattle.book.specs.Rules.{Atom, Alternative, nameAt}
 use Rattle.book.specs.Encode.{nameWords, atomWords, alternativeRows, ruleRows, namesOf, asksOf}
 use Rattle.allen.specs.Atoms.{atomsOf}
-use Rattle.translator.specs.Translation.{tooWide}
 use Rattle.translator.specs.Going.{gather, gather-all, gather-more, run-more, run-none, drop-more, drop-none, seek-start, seek-miss}
 use Rattle.translator.specs.Compare.{relationWords}
 use Rattle.translator.specs.Items.{asksFrom, namesFor, asksFor, altOf, ruleItems, allItems, ruleFor, rulesBy, below-at}
@@ -155,9 +154,6 @@ module _ (s list : List ℕ) where
   unfoldable pub atomCount : ℕ → ℕ
   atomCount i = length (asksOf (altsLeft i))
 
-  unfoldable pub wideLeft : ℕ → Bool
-  wideLeft i = any (λ (a : Alternative Atom). ltb 32 (length (a .asks))) (altsLeft i)
-
   module _ (i : ℕ) (l : i < length list) where
     alts-more : altsLeft i ≡ altOf s (getD list i 0) ∷ altsLeft (i + 1)
     unfolding altsLeft
@@ -184,16 +180,6 @@ module _ (s list : List ℕ) where
     unfolding atomCount flatMap
     atom-count-more = rw alts-more (length-append (altOf s (getD list i 0) .asks) (asksOf (altsLeft (i + 1))))
 
-    wide-more : wideLeft i ≡ (ltb 32 (length (altOf s (getD list i 0) .asks)) || wideLeft (i + 1))
-    unfolding wideLeft any
-    wide-more = rw alts-more
-
-    pub wide-hit : (n : ℕ) → n ≡ length (altOf s (getD list i 0) .asks) → 32 < n → wideLeft i ≡ true
-    wide-hit n e h = wide-more ∙ rw (← e, lt-ltb 32 n h)
-
-    pub wide-miss : (n : ℕ) → n ≡ length (altOf s (getD list i 0) .asks) → n ≤ 32 → wideLeft i ≡ wideLeft (i + 1)
-    wide-miss n e h = wide-more ∙ rw (← e, le-ltb 32 n h)
-
   module _ (i : ℕ) (l : length list ≤ i) where
     alts-none : altsLeft i ≡ []
     unfolding altsLeft
@@ -218,10 +204,6 @@ module _ (s list : List ℕ) where
     pub atom-count-none : atomCount i ≡ 0
     unfolding atomCount flatMap
     atom-count-none = rw alts-none
-
-    pub wide-none : wideLeft i ≡ false
-    unfolding wideLeft any
-    wide-none = rw alts-none
 
 -- ---- all rules from rule i on, of n, at the place q; the next alternative is number k
 
@@ -253,45 +235,3 @@ module _ (s numbers : List ℕ) (n o : ℕ) (h : numbers ≡ sizesFrom s n o) wh
   pub sizes-at : (i q : ℕ) → i < length numbers → q ≡ o + i * 4 → getD numbers i 0 ≡ length (ruleItems s q)
   unfolding sizesFrom
   sizes-at i q l e = rw (h, e) (run-at (λ (k : ℕ). length (ruleItems s k)) 4 n o i 0 (omega (arith, sizes-long)))
-
-  -- rule i's part of the list, from m to e
-  module _ (list : List ℕ) (m i e : ℕ) (l : i < length numbers) (he : e ≡ m + getD numbers i 0) (left : drop m list ≡ gather (ruleItems s) 4 (n - i) (o + i * 4)) where
-    more : drop m list ≡ ruleItems s (o + i * 4) ++ gather (ruleItems s) 4 (n - (i + 1)) (o + i * 4 + 4)
-    more = left ∙ gather-more (ruleItems s) 4 n i (o + i * 4) (omega (arith, sizes-long))
-
-    long : length (ruleItems s (o + i * 4)) ≡ e - m
-    long = omega (arith, sizes-at i (o + i * 4) l refl)
-
-    pub part-inside : m ≤ length list → e ≤ length list
-    part-inside h =
-        omega (arith, length-drop m list, ap length more, length-append (ruleItems s (o + i * 4)) (gather (ruleItems s) 4 (n - (i + 1)) (o + i * 4 + 4)), long)
-
-    part-is : take (e - m) (drop m list) ≡ ruleItems s (o + i * 4)
-    part-is = ap (take (e - m)) more ∙ take-at (ruleItems s (o + i * 4)) _ (e - m) long
-
-    pub part-wide : (f t : Bool) → f ≡ wideLeft s (take (e - m) (drop m list)) 0 → f ≡ t → tooWide (ruleFor s (o + i * 4)) ≡ t
-    unfolding tooWide ruleFor wideLeft altsLeft
-    part-wide f t hf ht = ap (λ (x : List ℕ). wideLeft s x 0) (sym part-is) ∙ sym hf ∙ ht
-
-    pub part-next : drop e list ≡ gather (ruleItems s) 4 (n - (i + 1)) (o + (i + 1) * 4)
-    part-next =
-        let rest : List ℕ = gather (ruleItems s) 4 (n - (i + 1)) (o + i * 4 + 4) in
-        let at : o + i * 4 + 4 ≡ o + (i + 1) * 4 = omega arith in
-        let sum : m + (e - m) ≡ e = omega arith in
-        rw (← at) (rw sum at (sym (drop-drop (e - m) m list)) ∙ ap (drop (e - m)) more ∙ drop-at (ruleItems s (o + i * 4)) rest (e - m) long)
-
--- what the search for a wide rule starts with, and how it goes on
-module _ (s : List ℕ) where
-  pub wide-start : (list : List ℕ) → list ≡ allItems s
-      → (drop 0 list ≡ gather (ruleItems s) 4 (count s 2 - 0) (offset s 2 + 0 * 4))
-      × (first tooWide (rulesBy s) ≡ 0 + first tooWide (run (ruleFor s) 4 (count s 2 - 0) (offset s 2 + 0 * 4)))
-  unfolding allItems rulesBy
-  wide-start list e =
-      let o : offset s 2 + 0 * 4 ≡ offset s 2 = omega arith in
-      rw o (e ∙ gather-all (ruleItems s) 4 (count s 2) (offset s 2), seek-start tooWide (ruleFor s) 4 (count s 2) (offset s 2))
-
-  pub wide-next : (n o i whole : ℕ) → whole ≡ i + first tooWide (run (ruleFor s) 4 (n - i) (o + i * 4)) → i < n → tooWide (ruleFor s (o + i * 4)) ≡ false
-      → whole ≡ i + 1 + first tooWide (run (ruleFor s) 4 (n - (i + 1)) (o + (i + 1) * 4))
-  wide-next n o i whole h l e =
-      let at : o + i * 4 + 4 ≡ o + (i + 1) * 4 = omega arith in
-      rw (← at) (seek-miss tooWide (ruleFor s) 4 n i (o + i * 4) whole h l e)

@@ -19,7 +19,7 @@ use Rattle.book.specs.Fault.{bookFault}
 use Rattle.book.proofs.Good.{good, no-number}
 use Rattle.book.specs.Sound.{Sound}
 use Rattle.book.proofs.Sound.{sound}
-use Rattle.translator.specs.Translation.{rulesFor, translated, tooMany, tooWide, ruleFault, sizeFault, roomFault, translation, roomAfter}
+use Rattle.translator.specs.Translation.{rulesFor, translated, tooMany, ruleFault, sizeFault, roomFault, translation, roomAfter}
 use Rattle.translator.specs.Items.{rulesBy}
 use Rattle.translator.specs.Listed.{Fits, ListedIs}
 use Rattle.translator.specs.Bridge.{rules-are}
@@ -39,14 +39,13 @@ stop {x} {v} y e h = ap (λ (z : Numbers). orElse z y) e ∙ else-fault v y h
 pass : {x : Numbers} (y : Numbers) → x ≡ noFault → orElse x y ≡ y
 pass {x} y e = ap (λ (z : Numbers). orElse z y) e ∙ else-next noFault y refl
 
-rule-found : (number : ℕ) (test : Rule Atom → Bool) (rules : List (Rule Atom)) → first test rules < length rules
-    → ruleFault number test rules ≡ numbers number (first test rules) 0
+rule-found : (rules : List (Rule Atom)) → first tooMany rules < length rules → ruleFault rules ≡ numbers 13 (first tooMany rules) 0
 unfolding ruleFault
-rule-found number test rules h = rw (lt-ltb (first test rules) (length rules) h)
+rule-found rules h = rw (lt-ltb (first tooMany rules) (length rules) h)
 
-rule-none : (number : ℕ) (test : Rule Atom → Bool) (rules : List (Rule Atom)) → length rules ≤ first test rules → ruleFault number test rules ≡ noFault
+rule-none : (rules : List (Rule Atom)) → length rules ≤ first tooMany rules → ruleFault rules ≡ noFault
 unfolding ruleFault
-rule-none number test rules h = rw (le-ltb (first test rules) (length rules) h)
+rule-none rules h = rw (le-ltb (first tooMany rules) (length rules) h)
 
 -- the table that is too long, as one number
 longs : (a b c d : Bool)
@@ -126,32 +125,20 @@ module _ (s room : List ℕ) where
     too-many r e l =
         let q : first tooMany (rulesFor s) ≡ r = ap (first tooMany) same ∙ sym e in
         refused (numbers 13 r 0)
-        (else-next _ _ (p .good) ∙ stop _ (rule-found 13 tooMany (rulesFor s) (omega (arith, long)) ∙ ap (λ (k : ℕ). numbers 13 k 0) q) (λ z. omega arith))
+        (else-next _ _ (p .good) ∙ stop _ (rule-found (rulesFor s) (omega (arith, long)) ∙ ap (λ (k : ℕ). numbers 13 k 0) q) (λ z. omega arith))
         (λ z. omega arith)
 
     module _ (few : count s 2 ≤ first tooMany (rulesBy s)) where
-      no-13 : ruleFault 13 tooMany (rulesFor s) ≡ noFault
-      no-13 = rule-none 13 tooMany (rulesFor s) (omega (arith, long, ap (first tooMany) same))
+      no-13 : ruleFault (rulesFor s) ≡ noFault
+      no-13 = rule-none (rulesFor s) (omega (arith, long, ap (first tooMany) same))
 
-      -- 16
-      pub too-wide : (r : ℕ) → r ≡ first tooWide (rulesBy s) → r < count s 2 → Outcome s room room (numbers 16 r 0)
-      unfolding translation
-      too-wide r e l =
-          let q : first tooWide (rulesFor s) ≡ r = ap (first tooWide) same ∙ sym e in
-          refused (numbers 16 r 0)
-          (else-next _ _ (p .good) ∙ pass _ no-13 ∙ stop _ (rule-found 16 tooWide (rulesFor s) (omega (arith, long)) ∙ ap (λ (k : ℕ). numbers 16 k 0) q) (λ z. omega arith))
-          (λ z. omega arith)
-
-      module _ (narrow : count s 2 ≤ first tooWide (rulesBy s)) {n m k w : ℕ} (z : Sizes s n m k w) where
-        no-16 : ruleFault 16 tooWide (rulesFor s) ≡ noFault
-        no-16 = rule-none 16 tooWide (rulesFor s) (omega (arith, long, ap (first tooWide) same))
-
+      module _ {n m k w : ℕ} (z : Sizes s n m k w) where
         -- 14
         pub too-long : (t : ℕ) → t ≡ longTable n m k w → (t ≡ 0 → ⊥) → Outcome s room room (numbers 14 t 0)
         unfolding translation
         too-long t e h =
             let found : sizeFault s ≡ numbers 14 t 0 = rw e (size-long z (λ q. h (e ∙ q))) in
-            refused (numbers 14 t 0) (else-next _ _ (p .good) ∙ pass _ no-13 ∙ pass _ no-16 ∙ stop _ found (λ q. omega arith)) (λ q. omega arith)
+            refused (numbers 14 t 0) (else-next _ _ (p .good) ∙ pass _ no-13 ∙ stop _ found (λ q. omega arith)) (λ q. omega arith)
 
         -- 15
         pub too-short : (t : ℕ) → t ≡ longTable n m k w → t ≡ 0 → length room < w → Outcome s room room (numbers 15 w 0)
@@ -159,7 +146,7 @@ module _ (s room : List ℕ) where
         too-short t e h l =
             let found : roomFault s (length room) ≡ numbers 15 w 0 = rw (← z .all, lt-ltb (length room) w l) in
             refused (numbers 15 w 0)
-            (else-next _ _ (p .good) ∙ pass _ no-13 ∙ pass _ no-16 ∙ pass _ (size-none z (sym e ∙ h)) ∙ stop _ found (λ q. omega arith))
+            (else-next _ _ (p .good) ∙ pass _ no-13 ∙ pass _ (size-none z (sym e ∙ h)) ∙ stop _ found (λ q. omega arith))
             (λ q. omega arith)
 
         -- 0
@@ -169,7 +156,7 @@ module _ (s room : List ℕ) where
         written t e h l after r wrote =
             let none : roomFault s (length room) ≡ noFault = rw (← z .all, le-ltb (length room) w l) in
             finished (numbers 0 w n) after r
-            (else-next _ _ (p .good) ∙ pass _ no-13 ∙ pass _ no-16 ∙ pass _ (size-none z (sym e ∙ h)) ∙ pass _ none ∙ rw (← z .all, ← z .alternatives))
+            (else-next _ _ (p .good) ∙ pass _ no-13 ∙ pass _ (size-none z (sym e ∙ h)) ∙ pass _ none ∙ rw (← z .all, ← z .alternatives))
             refl wrote (omega (arith, z .all))
 
 -- a sheet with the answer number 0 so far

@@ -7,9 +7,8 @@ use lib.ListN.{length, take, drop}
 use Rattle.answers.specs.declared.Numbers.{Numbers}
 use Rattle.answers.specs.Numbers.{numbers, noFault, orElse}
 use Rattle.words.specs.Least.{first}
-use Rattle.words.specs.Lists.{any}
 use Rattle.layout.specs.Layout.{count, offset, width, most}
-use Rattle.book.specs.Rules.{Atom, Alternative, Rule, rulesOf}
+use Rattle.book.specs.Rules.{Atom, Rule, rulesOf}
 use Rattle.book.specs.Encode.{atoms, constraints, altsOf, namesOf, asksOf, bookOf}
 use Rattle.book.specs.Fault.{bookFault}
 use Rattle.translator.specs.Expand.{translate}
@@ -30,13 +29,9 @@ translated s = bookOf atoms 1 (count s 0) (tableWords 2 s 0) (count s 1) (tableW
 unfoldable pub tooMany : Rule Atom → Bool
 tooMany r = ltb 64 (length (r .alternatives))
 
--- 16 "first rule with an alternative of over 32 atoms"
-unfoldable pub tooWide : Rule Atom → Bool
-tooWide r = any (λ (a : Alternative Atom). ltb 32 (length (a .asks))) (r .alternatives)
-
--- the first rule of which a test holds, as a fault with that number
-unfoldable pub ruleFault : ℕ → (Rule Atom → Bool) → List (Rule Atom) → Numbers
-ruleFault number test rules = cond (ltb (first test rules) (length rules)) (numbers number (first test rules) 0) noFault
+-- the first such rule, if there is one
+unfoldable pub ruleFault : List (Rule Atom) → Numbers
+ruleFault rules = cond (ltb (first tooMany rules) (length rules)) (numbers 13 (first tooMany rules) 0) noFault
 
 -- 14 "first of tables 3, 4, 5 over its limit, or the total over 16,384 words, shown as 6"
 unfoldable pub sizeFault : List ℕ → Numbers
@@ -50,14 +45,13 @@ sizeFault s =
 unfoldable pub roomFault : List ℕ → ℕ → Numbers
 roomFault s room = cond (ltb room (length (translated s))) (numbers 15 (length (translated s)) 0) noFault
 
--- "Translator, after 1 to 4: 13 ..; 16 ..; 14 ..; 15 ..; 0 done (a words written, b alternatives)"
+-- "Translator, after 1 to 4: 13 ..; 14 ..; 15 ..; 0 done (a words written, b alternatives)"
 unfoldable pub translation : List ℕ → ℕ → Numbers
 translation s room =
     orElse (bookFault 2 s)
-    (orElse (ruleFault 13 tooMany (rulesFor s))
-    (orElse (ruleFault 16 tooWide (rulesFor s))
+    (orElse (ruleFault (rulesFor s))
     (orElse (sizeFault s)
-    (orElse (roomFault s room) (numbers 0 (length (translated s)) (length (altsOf (rulesFor s))))))))
+    (orElse (roomFault s room) (numbers 0 (length (translated s)) (length (altsOf (rulesFor s)))))))
 
 -- "Refused, the room is untouched. Done, only the words written differ."
 unfoldable pub roomAfter : List ℕ → List ℕ → List ℕ

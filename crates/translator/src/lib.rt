@@ -12,9 +12,9 @@ ghost use Rattle.translator.specs.Going.{gather, upTo};
 ghost use Rattle.translator.specs.Items.{itemsFrom, itemsAt, allItems, altOf, rulesBy, Digits};
 ghost use Rattle.translator.specs.Listed.{Fits, ListedIs, sizesFrom};
 ghost use Rattle.translator.specs.Compare.{side, upper, compared, relationWords};
-ghost use Rattle.translator.specs.Left.{sizes, countFrom, itemNames, itemAtoms, namesLeft, atomsLeft, rowsLeft, rulesLeft, nameCount, atomCount, wideLeft};
+ghost use Rattle.translator.specs.Left.{sizes, countFrom, itemNames, itemAtoms, namesLeft, atomsLeft, rowsLeft, rulesLeft, nameCount, atomCount};
 ghost use Rattle.translator.specs.Whole.{head, tablesBy, Ready, Counted};
-ghost use Rattle.translator.specs.Translation.{tooMany, tooWide, translated, translation, roomAfter};
+ghost use Rattle.translator.specs.Translation.{tooMany, translated, translation, roomAfter};
 ghost use Rattle.translator.specs.Outcome.{Passed, longTable};
 use answers::Answer;
 
@@ -186,20 +186,6 @@ fn count_all(s: &[u32], list: &[u64]) -> Totals
     Totals { names, atoms }
 }
 
-// Whether one of these items has over 32 atoms.
-fn some_wide(s: &[u32], list: &[u64]) -> bool
-    ensures { λ r. ⌜ r ≡ wideLeft (now (s .entry)) (now (list .entry)) 0 ⌝ }
-{
-    let mut i = 0;
-    while i < list.len() {
-        if count_atoms(s, list[i]) > 32 {
-            return true;
-        }
-        i += 1;
-    }
-    false
-}
-
 // Four words at `at`; the next place.
 fn put4(out: &mut [u32], at: usize, a: u32, b: u32, c: u32, d: u32) -> usize
     requires { ⌜ Has (now out) at (a ∷ b ∷ c ∷ d ∷ []) ⌝ }
@@ -282,24 +268,6 @@ fn put_relation(out: &mut [u32], at: usize, x: usize, l: u32, r: u32) -> usize
     let a = put_comparison(out, at, FIRST[x], l, r);
     let b = put_comparison(out, a, SECOND[x], l, r);
     put_comparison(out, b, THIRD[x], l, r)
-}
-
-// The first rule with an alternative of over 32 atoms, or the number of rules.
-fn first_wide(s: &[u32], list: &[u64], numbers: &[u32]) -> usize
-    requires { ⌜ (now list ≡ allItems (now s)) × (now numbers ≡ sizesFrom (now s) (count (now s) 2) (offset (now s) 2)) ⌝ }
-    ensures { λ r. ⌜ r ≡ first tooWide (rulesBy (now (s .entry))) ⌝ }
-{
-    let mut m = 0;
-    let mut i = 0;
-    while i < numbers.len() {
-        let e = m + words::number_at(numbers, i);
-        if some_wide(s, &list[m..e]) {
-            return i;
-        }
-        m = e;
-        i += 1;
-    }
-    i
 }
 
 // The names of an item.
@@ -492,10 +460,6 @@ fn finish(sheet: &[u32], list: &[u64], numbers: &[u32], room: &mut [u32]) -> Ans
     requires { ⌜ Ready (now sheet) (now list) (now numbers) × (Passed (now sheet) × (count (now sheet) 2 ≤ first tooMany (rulesBy (now sheet)))) ⌝ }
     ensures { λ r. ⌜ (numbersOf r ≡ translation (now (sheet .entry)) (length (now (room .entry)))) × (now (room .exit) ≡ roomAfter (now (sheet .entry)) (now (room .entry))) ⌝ }
 {
-    let rule = first_wide(sheet, list, numbers);
-    if rule < numbers.len() {
-        return Answer::TooManyAtoms { rule: rule as u32 };
-    }
     let n = list.len();
     let all = count_all(sheet, list);
     let m = all.names;

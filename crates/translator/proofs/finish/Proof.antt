@@ -3,9 +3,8 @@
 use mathlib.Core.Path.{refl, sym, _∙_}
 use native.Mathlib.Omega.{arith}
 use borrow.Author.Needs.{needs}
-use Rattle.translator.specs.Left.{sizes-long}
-use Rattle.translator.specs.Whole.{few-rules, sizes-by}
-use Rattle.translator.specs.Outcome.{long-none, too-wide, too-long, too-short, written}
+use Rattle.translator.specs.Whole.{sizes-by}
+use Rattle.translator.specs.Outcome.{long-none, too-long, too-short, written}
 use Rattle.translator.proofs.finish.Statement.{statement}
 use Rattle.translator.proofs.finish.Tie as tie
 
@@ -13,45 +12,32 @@ pub finish-spec : {M : Type 1} → statement M
 finish-spec =
     tie.close
     (tie.spec
-    (λ c κs.
+    (λ c κs. c .before .before .before .before .pre .0 .few)
+    (λ c κs. search needs)
+    (λ c. omega (arith, c .before .before .before .before .before .before .pre .0 .few))
+    (λ c. omega (arith, c .before .before .before .before .before .before .pre .0 .few))
+    (λ c. search needs)
+    (λ c. omega (arith, c .before .before .before .before .before .before .pre .0 .few))
+    (λ c. search needs)
+    (λ c. omega (arith, c .before .before .before .before .before .before .pre .0 .few))
+    (λ c κs. search needs)
+    (λ c.
+    let b3 = c .before .before .before in
+    let b8 = b3 .before .before .before .before .before in
+    let z = sizes-by (b8 .pre .0) refl (b3 .count-all .ensures .0 .0) (b3 .count-all .ensures .0 .1) (omega arith) in
+    too-long _ _ (b8 .pre .1 .0) (b8 .pre .1 .1) z _ (c .before .too-long .ensures) (c .if1 .taken))
+    (λ c. let h = long-none _ _ _ _ (sym (c .before .before .too-long .ensures) ∙ c .before .if1 .left) in omega (arith, h .1 .1 .1))
+    (λ c.
     let b4 = c .before .before .before .before in
-    (b4 .pre .0 .items, b4 .pre .0 .counts))
-    (λ c.
-    let b6 = c .before .before .before .before .before .before in
-    let n = sizes-long _ _ _ _ (b6 .pre .0 .counts) in
-    let f = few-rules (b6 .pre .0) in
-    omega arith)
-    (λ c.
-    let b6 = c .before .before .before .before .before .before in
-    too-wide _ _ (b6 .pre .1 .0) (b6 .pre .1 .1) _ (c .before .first-wide .ensures) (omega (arith, sizes-long _ _ _ _ (b6 .pre .0 .counts))))
-    (λ c κs. c .before .before .before .before .before .before .pre .0 .few)
-    (λ c κs. search needs)
-    (λ c. omega (arith, c .before .before .before .before .before .before .before .before .pre .0 .few))
-    (λ c. omega (arith, c .before .before .before .before .before .before .before .before .pre .0 .few))
-    (λ c. search needs)
-    (λ c. omega (arith, c .before .before .before .before .before .before .before .before .pre .0 .few))
-    (λ c. search needs)
-    (λ c. omega (arith, c .before .before .before .before .before .before .before .before .pre .0 .few))
-    (λ c κs. search needs)
-    (λ c.
+    let b9 = b4 .before .before .before .before .before in
+    let z = sizes-by (b9 .pre .0) refl (b4 .count-all .ensures .0 .0) (b4 .count-all .ensures .0 .1) (omega arith) in
+    too-short _ _ (b9 .pre .1 .0) (b9 .pre .1 .1) z _ (c .before .before .too-long .ensures) (c .before .if1 .left) (c .if2 .taken))
+    (λ c κs.
     let b3 = c .before .before .before in
     let b5 = b3 .before .before in
     let b10 = b5 .before .before .before .before .before in
-    let z = sizes-by (b10 .pre .0) refl (b3 .count-all .ensures .0 .0) (b3 .count-all .ensures .0 .1) (omega arith) in
-    too-long _ _ (b10 .pre .1 .0) (b10 .pre .1 .1) (omega (arith, sizes-long _ _ _ _ (b10 .pre .0 .counts), b5 .first-wide .ensures)) z _ (c .before .too-long .ensures) (c .if2 .taken))
-    (λ c. let h = long-none _ _ _ _ (sym (c .before .before .too-long .ensures) ∙ c .before .if2 .left) in omega (arith, h .1 .1 .1))
-    (λ c.
-    let b4 = c .before .before .before .before in
-    let b6 = b4 .before .before in
-    let b11 = b6 .before .before .before .before .before in
-    let z = sizes-by (b11 .pre .0) refl (b4 .count-all .ensures .0 .0) (b4 .count-all .ensures .0 .1) (omega arith) in
-    too-short _ _ (b11 .pre .1 .0) (b11 .pre .1 .1) (omega (arith, sizes-long _ _ _ _ (b11 .pre .0 .counts), b6 .first-wide .ensures)) z _ (c .before .before .too-long .ensures) (c .before .if2 .left) (c .if3 .taken))
-    (λ c κs.
-    let b3 = c .before .before .before in
-    let b5 = b3 .before .before in
-    let b12 = b5 .before .before .before .before .before .before .before in
-    let h = long-none _ _ _ _ (sym (b3 .too-long .ensures) ∙ c .before .before .if2 .left) in (
-      b12 .pre .0,
+    let h = long-none _ _ _ _ (sym (b3 .too-long .ensures) ∙ c .before .before .if1 .left) in (
+      b10 .pre .0,
       record {
         names = b5 .count-all .ensures .0 .0;
         atoms = b5 .count-all .ensures .0 .1;
@@ -64,15 +50,13 @@ finish-spec =
     (λ c.
     let b5 = c .before .before .before .before .before in
     let b6 = b5 .before in
-    let h = long-none _ _ _ _ (sym (b6 .too-long .ensures) ∙ b5 .if2 .left) in omega (arith, h .1 .1 .1))
-    (λ c. omega (arith, c .before .before .before .before .before .before .before .before .before .before .before .before .before .before .before .pre .0 .few))
+    let h = long-none _ _ _ _ (sym (b6 .too-long .ensures) ∙ b5 .if1 .left) in omega (arith, h .1 .1 .1))
+    (λ c. omega (arith, c .before .before .before .before .before .before .before .before .before .before .before .before .before .pre .0 .few))
     (λ c. search needs)
     (λ c.
     let b5 = c .before .before .before .before .before in
     let b6 = b5 .before in
     let b8 = b6 .before .before in
-    let b10 = b8 .before .before in
-    let b15 = b10 .before .before .before .before .before in
-    let z = sizes-by (b15 .pre .0) refl (b8 .count-all .ensures .0 .0) (b8 .count-all .ensures .0 .1) (omega arith) in
-    written _ _ (b15 .pre .1 .0) (b15 .pre .1 .1) (omega (arith, sizes-long _ _ _ _ (b15 .pre .0 .counts), b10 .first-wide .ensures)) z _ (b6 .too-long .ensures) (b5 .if2 .left) (omega (arith, c .before .before .before .before .if3 .left)) _ _ (c .before .before .put-book .ensures))
-    )
+    let b13 = b8 .before .before .before .before .before in
+    let z = sizes-by (b13 .pre .0) refl (b8 .count-all .ensures .0 .0) (b8 .count-all .ensures .0 .1) (omega arith) in
+    written _ _ (b13 .pre .1 .0) (b13 .pre .1 .1) z _ (b6 .too-long .ensures) (b5 .if1 .left) (omega (arith, c .before .before .before .before .if2 .left)) _ _ (c .before .before .put-book .ensures)))
