@@ -26,7 +26,7 @@ use Rattle.lines.specs.declared.Token.{Token}
 use Rattle.lines.specs.Lines.{lineOf}
 use Rattle.plan.specs.Fault.{planFault}
 use Rattle.plan.proofs.Good.{plan-good, plan-good-back, no-number}
-use Rattle.matching.specs.Met.{Choice, nobody, atomHolds, constraintHolds}
+use Rattle.choice.specs.Met.{Choice, nobody, atomHolds, constraintHolds}
 use Rattle.verdict.specs.Judged.{untriggered, counted, triggerLine, isTrigger, examined, ruleUnmet, rulesFault, judged, judgedSheet}
 use Rattle.claims.specs.Papers.{Plan, Satisfied, Satisfies}
 use Rattle.claims.specs.Sheets.{SheetSatisfies}

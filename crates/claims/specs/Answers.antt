@@ -22,7 +22,7 @@ use Rattle.book.specs.Encode.{atoms, constraints}
 use Rattle.book.specs.Fault as book
 use Rattle.lines.specs.Lines.{lineOf}
 use Rattle.plan.specs.Fault as plan
-use Rattle.matching.specs.Met.{Choice, atomHolds, constraintHolds}
+use Rattle.choice.specs.Met.{Choice, atomHolds, constraintHolds}
 use Rattle.verdict.specs.Judged.{noRule, firstUnmet, ruleUnmet, examined, rulesFault, judged, judgedSheet}
 use Rattle.claims.specs.Stages.{firstOf, in-order, line-own}
 

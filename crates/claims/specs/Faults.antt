@@ -18,7 +18,7 @@ use Rattle.book.specs.Rules.{rulesOf}
 use Rattle.lines.specs.Lines.{lineOf}
 use Rattle.plan.specs.Fault as plan
 use Rattle.lines.specs.Good.{HeadGood}
-use Rattle.matching.specs.Met.{atomHolds, constraintHolds}
+use Rattle.choice.specs.Met.{atomHolds, constraintHolds}
 use Rattle.verdict.specs.Judged.{rulesFault, judged, judgedSheet}
 use Rattle.claims.specs.Stages.{Stage, Own, Owned, Passed, firstOf, noStage, disjoint, bookStages, planStages, stagesOf, lastStage, at-stage, book-owned, plan-owned, owned, judge-disjoint, rules-own, in-order}
 use Rattle.claims.specs.Wrongs.{First, Tables, None, BookSized, HeaderWrong, TableGood, TableBad, PlanSized, HeadWrong}

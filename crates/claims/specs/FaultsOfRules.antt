@@ -20,7 +20,7 @@ use Rattle.words.specs.Lists.{All}
 use Rattle.lines.specs.declared.Token.{Token}
 use Rattle.lines.specs.Lines.{lineOf}
 use Rattle.plan.specs.Fault.{planFault}
-use Rattle.matching.specs.Met.{Choice, atomHolds, constraintHolds}
+use Rattle.choice.specs.Met.{Choice, atomHolds, constraintHolds}
 use Rattle.verdict.specs.Judged.{noRule, firstUnmet, ruleUnmet, examined, rulesFault, judged, judgedSheet}
 use Rattle.claims.specs.Papers.{Plan, Satisfied, Met, Satisfies}
 use Rattle.claims.specs.Sheets.{Holds, SheetSatisfies}

@@ -23,7 +23,7 @@ use Rattle.plan.specs.Fault as plan
 use Rattle.lines.proofs.Laws.{line-token}
 use Rattle.plan.specs.Good.{TokenGood}
 use Rattle.plan.proofs.Good.{outside-right, token-good, token-back}
-use Rattle.matching.specs.Met.{nobody}
+use Rattle.choice.specs.Met.{nobody}
 use Rattle.claims.specs.Papers.{Lasts, tokenOf, durationOf}
 use Rattle.claims.specs.Wrongs.{First}
 use Rattle.claims.specs.WrongTests.{not-eq, unless, otherwise, none-is, first-is}

@@ -17,8 +17,9 @@ use Rattle.clock.specs.Clock.{noLimit}
 use Rattle.clock.proofs.Laws.{whole}
 use Rattle.book.specs.Rules.{Atom, Alternative, Rule}
 use Rattle.lines.specs.declared.Token.{Token}
-use Rattle.matching.specs.Met.{Choice, nobody, timeOf, atomHolds, met}
-use Rattle.matching.specs.Exists as exists
+use Rattle.choice.specs.Met.{Choice, nobody, timeOf, atomHolds, met}
+use Rattle.choice.specs.Exists as exists
+use Rattle.choice.proofs.Exists.{met-iff as exists-met, choice-time}
 use Rattle.claims.specs.Papers.{tokenOf, Evaluates, start, end, timestamp, Satisfied, On, noName, noStatement, Maps, Met}
 use Rattle.claims.specs.Laws.{all-to}
 use Rattle.claims.specs.Decoded.{AlternativeFine, RuleFine}
@@ -56,16 +57,16 @@ module _ (trigger : Token) (tokens : List Token) (few : length tokens ≤ 4) whe
   -- the time of a term of kind 0, 1 or 2 is its evaluation
   evaluates : (kind k : ℕ) → kind ≤ 2 → Evaluates mapping kind k (timeOf (exists.choiceOf trigger tokens) kind k)
   unfolding timeOf
-  evaluates zero k l = rw (exists.choice-time trigger tokens k few .0) (start k)
-  evaluates (suc zero) k l = rw (exists.choice-time trigger tokens k few .1) (end k)
+  evaluates zero k l = rw (choice-time trigger tokens k few .0) (start k)
+  evaluates (suc zero) k l = rw (choice-time trigger tokens k few .1) (end k)
   evaluates (suc (suc zero)) k l = timestamp k
   evaluates (suc (suc (suc n))) k l = absurd (omega arith)
 
   -- and there is no other
   evaluation : (kind k x : ℕ) → Evaluates mapping kind k x → x ≡ timeOf (exists.choiceOf trigger tokens) kind k
   unfolding timeOf
-  evaluation _ _ _ (start k) = sym (exists.choice-time trigger tokens k few .0)
-  evaluation _ _ _ (end k) = sym (exists.choice-time trigger tokens k few .1)
+  evaluation _ _ _ (start k) = sym (choice-time trigger tokens k few .0)
+  evaluation _ _ _ (end k) = sym (choice-time trigger tokens k few .1)
   evaluation _ _ _ (timestamp k) = refl
 
   -- an atom holds just where it is satisfied
@@ -164,7 +165,7 @@ module _ {C : Type 0} (holds : Choice → C → Bool) (Holds : List Token → C 
   -- THE LAW: the search's answer is true exactly if the trigger token is met, as 000, Definition 2.11 says
   pub met-by : (r : Rule C) → All Tells (r .alternatives) → (met holds lines r trigger ≡ true) ↔ Met Holds lines r trigger
   met-by r tells =
-      let m = exists.met-iff holds lines trigger r in
+      let m = exists-met holds lines trigger r in
       let told = all-at Tells noStatement (r .alternatives) .0 tells in (
         λ h.
             let s = m .0 h in

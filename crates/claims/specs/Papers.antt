@@ -14,7 +14,7 @@ use Rattle.words.specs.Lists.{All}
 use Rattle.clock.specs.Clock.{lastTick, noLimit}
 use Rattle.book.specs.Rules.{Value, Variable, Name, Atom, Alternative, Rule}
 use Rattle.lines.specs.declared.Token.{Token}
-use Rattle.matching.specs.Met.{nobody}
+use Rattle.choice.specs.Met.{nobody}
 
 -- ---- 001, Definitions 1, 2 and 4: state variables, tokens, timelines, plans
 

@@ -18,7 +18,7 @@ use Rattle.layout.specs.Layout.{fifthWidth}
 use Rattle.book.specs.Sound.{Sound}
 use Rattle.book.proofs.Inside.{alternative-ranges, name-ranges, ask-ranges}
 use Rattle.lines.specs.declared.Token.{Token}
-use Rattle.matching.specs.Met.{Choice, nobody, atomHolds, constraintHolds, met}
+use Rattle.choice.specs.Met.{Choice, nobody, atomHolds, constraintHolds, met}
 use Rattle.verdict.specs.Judged.{untriggered, triggerLine, isTrigger, unmet, firstUnmet, ruleUnmet}
 use Rattle.claims.specs.Papers.{tokenOf, Plan, Satisfied, On, Met, Satisfies}
 use Rattle.claims.specs.Sheets.{Holds, SheetSatisfies}

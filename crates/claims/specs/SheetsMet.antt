@@ -20,8 +20,9 @@ use Rattle.book.specs.Rules.{Constraint, Variable, Alternative, Rule, variableA
 use Rattle.lines.specs.declared.Token.{Token}
 use Rattle.allen.specs.Relation.{conditions, relationOf}
 use Rattle.allen.specs.One.{stands-in, relation-below}
-use Rattle.matching.specs.Met.{nobody, tokenTime, constraintHolds, met}
-use Rattle.matching.specs.Exists as exists
+use Rattle.choice.specs.Met.{nobody, tokenTime, constraintHolds, met}
+use Rattle.choice.specs.Exists as exists
+use Rattle.choice.proofs.Exists.{choice-time}
 use Rattle.verdict.specs.Judged.{untriggered, triggerLine}
 use Rattle.claims.specs.Papers.{tokenOf, Plan, On, noName, Met}
 use Rattle.claims.specs.Sheets.{Relation, before, meets, overlaps, finishedBy, contains, starts, equals, startedBy, during, finishes, overlappedBy, metBy, after, Holds}
@@ -95,8 +96,8 @@ module _ (trigger : Token) (tokens : List Token) (few : length tokens ≤ 4) (pr
   pub constraint-iff : (q : Constraint) → (constraintHolds (exists.choiceOf trigger tokens) q ≡ true) ↔ Holds (trigger ∷ tokens) q
   unfolding constraintHolds
   constraint-iff q =
-      let l = exists.choice-time trigger tokens (q .left) few in
-      let r = exists.choice-time trigger tokens (q .right) few in
+      let l = choice-time trigger tokens (q .left) few in
+      let r = choice-time trigger tokens (q .right) few in
       let left : Token = tokenOf (trigger ∷ tokens) (q .left) in
       let right : Token = tokenOf (trigger ∷ tokens) (q .right) in
       let is = relation-is (left .start .tick) (left .end .tick) (right .start .tick) (right .end .tick) (proper (q .left)) (proper (q .right)) in

@@ -22,7 +22,7 @@ use Rattle.book.specs.Fault.{lowest}
 use Rattle.book.specs.Fault as book
 use Rattle.lines.specs.declared.Token.{Token}
 use Rattle.plan.specs.Fault as plan
-use Rattle.matching.specs.Met.{Choice}
+use Rattle.choice.specs.Met.{Choice}
 use Rattle.verdict.specs.Judged.{ruleUnmet, rulesFault}
 
 -- ---- stages and their order

@@ -20,7 +20,7 @@ use Rattle.lines.specs.Lines.{token, lineCount, lineOf}
 use Rattle.plan.specs.Fault as plan
 use Rattle.lines.proofs.Laws.{line-length, line-token}
 use Rattle.plan.specs.Good.{TokenGood}
-use Rattle.matching.specs.Met.{nobody}
+use Rattle.choice.specs.Met.{nobody}
 use Rattle.claims.specs.Papers.{noValue, valueOf, Lasts, Follows, tokenOf, durationOf, Timeline, noVariable, Plan}
 
 -- ---- a timeline's starts

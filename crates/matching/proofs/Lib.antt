@@ -1,5 +1,3 @@
--- What the proofs of several functions use.
-mod Kept
-mod Laws
-mod Ranges
-mod Windows
+-- What the proofs of several functions use, and the laws of kept marks.
+pub mod Search
+pub mod Carrying

@@ -14,7 +14,7 @@ use Rattle.book.specs.Fault.{bookFault}
 use Rattle.lines.specs.declared.Token.{Token}
 use Rattle.lines.specs.Lines.{lineOf}
 use Rattle.plan.specs.Fault.{planFault}
-use Rattle.matching.specs.Met.{Choice, nobody, atomHolds, constraintHolds, met}
+use Rattle.choice.specs.Met.{Choice, nobody, atomHolds, constraintHolds, met}
 
 abbrev pub noRule : {C : Type 0} → Rule C
 noRule = record { variable = 0; value = 0; alternatives = [] }

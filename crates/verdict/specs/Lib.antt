@@ -1,8 +1,3 @@
--- The definitions that the contracts of `verdict` cite, and what is proved of them.
+-- The definitions that the contracts of `verdict` cite.
 pub mod Judged
 pub mod Survey
-pub mod Passed
-pub mod Steps
-pub mod Few
-pub mod Stages
-pub mod Typed

@@ -10,7 +10,7 @@ use Rattle.book.specs.Rules.{Rule, ruleAt, rulesOf}
 use Rattle.book.specs.Fault.{bookFault}
 use Rattle.lines.specs.Lines.{lineOf}
 use Rattle.plan.specs.Fault.{planFault}
-use Rattle.matching.specs.Placed.{places, askHolds}
+use Rattle.choice.specs.Asked.{places, askHolds}
 use Rattle.verdict.specs.declared.Tally.{Tally}
 use Rattle.verdict.specs.Judged.{counted, triggerLine, isTrigger, firstUnmet, ruleUnmet, rulesFault}
 

@@ -34,6 +34,7 @@ fn survey_line(e: usize, b: &[u32], p: &[u32], place: usize) -> Tally
     let mut start: u64 = 0;
     let mut token: u32 = 0;
     let mut seen: u32 = 0;
+    let mut kept = [0u64; 1344];
     while token < count {
         let end = start + word_at(p, at + 1) as u64;
         if word_at(p, at) == value {
@@ -42,7 +43,7 @@ fn survey_line(e: usize, b: &[u32], p: &[u32], place: usize) -> Tally
                 start: Time { tick: start },
                 end: Time { tick: end },
             };
-            if !matching::met(e, b, p, first, n, t) {
+            if !matching::met(e, b, p, first, n, t, &mut kept) {
                 break;
             }
             seen += 1;
@@ -66,13 +67,15 @@ fn survey(e: usize, b: &[u32], p: &[u32], place: usize) -> Tally
     if word_at(b, place) != Time::NO_LIMIT {
         return survey_line(e, b, p, place);
     }
+    let mut kept = [0u64; 1344];
     let met = matching::met(
         e,
         b,
         p,
         word_at(b, place + 2),
         word_at(b, place + 3),
-        matching::nobody(),
+        choice::nobody(),
+        &mut kept,
     );
     Tally {
         unmet: !met,

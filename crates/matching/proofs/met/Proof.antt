@@ -1,100 +1,158 @@
 -- `matching::met` meets its contract. The outer loop's invariant: whether one of the alternatives is met is whether one of those left is. The
--- inner loop's: whether this alternative is met is whether one of the tokens left for its first name does, with the choice as the tokens
--- before left it. The measures are the alternatives and the tokens left. Assumes nothing.
+-- inner loop's: whether this alternative is met is whether one of the tokens left for its first name does. The measures are the
+-- alternatives and the tokens left. Assumes nothing.
 use mathlib.Core.Path.{_≡_, refl, sym, _∙_}
 use mathlib.Core.Bool.{false}
 use mathlib.Core.Logic.{⊎-elim}
-use Prim.Native.Nat.{_+_, _*_, _^_, _<_, _≤_}
+use Prim.Native.Nat.{_+_, _-_, _*_, _^_, _<_, _≤_}
 use native.Mathlib.Omega.{arith}
 use borrow.Author.Needs.{needs}
 use Rattle.layout.specs.Layout.{offset}
-use Rattle.matching.specs.Met.{triggered}
-use Rattle.matching.specs.Placed.{tokenFor, metAt}
-use Rattle.matching.proofs.Laws.{token-none, token-hit, token-skip, token-miss, token-next, metHere, alt-placed, alt-named, alt-none, alt-step}
+use Rattle.choice.specs.Asked.{metAt}
+use Rattle.matching.specs.Search.{tokenFor, Along}
+use Rattle.matching.specs.Carried.{Carried}
+use Rattle.matching.proofs.Search.{begun-none, begun-first, along-next, place-none, place-some, token-none, token-hit, token-skip, token-miss}
+use Rattle.matching.proofs.Carrying.{slot-fits, carried-at, carried-next, metHere, alt-placed, alt-none, alt-step}
 use Rattle.matching.proofs.met.Statement.{statement}
 use Rattle.matching.proofs.met.Tie as tie
 
 abbrev Inv-loop : tie.InvT-loop
-Inv-loop e b p first n t found₀ alternatives at a c₀ rest next w token₀ start₀ count₀ found c token start count =
-    (found ≡ false) × (token + 2 * count < 2 ^ 60) × (start + 4294967296 * count < 2 ^ 64)
-    × (metHere e b p t at ≡ tokenFor e b p (a .ask) (a .asks) rest next 1 c (w .value) count token start)
+Inv-loop e b p first n t kept found₀ alternatives at slot a c times rests w token₀ start₀ count₀ found token start count =
+    (found ≡ false) × Along b p a 0 (record { value = w .value; count = count; place = token; start = start })
+    × (metHere e b p t at ≡ tokenFor b p a (a .names - 1) 0 c (record { value = w .value; count = count; place = token; start = start }))
 
 abbrev μ-loop : tie.MeasureT-loop
-μ-loop e b p first n t found₀ alternatives at a c₀ rest next w token₀ start₀ count₀ found c token start count = count
+μ-loop e b p first n t kept found₀ alternatives at slot a c times rests w token₀ start₀ count₀ found token start count = count
 
 abbrev Inv-settled : tie.InvT-settled
-Inv-settled e b p first n t found₀ alternatives₀ at₀ found alternatives at =
+Inv-settled e b p first n t kept₀ found₀ alternatives₀ at₀ slot₀ kept found alternatives at slot =
     (found ≡ false) × (alternatives ≤ n) × (at + 4 * alternatives < 2 ^ 50) × (metAt e b p t n (offset b 3 + 4 * first) ≡ metAt e b p t alternatives at)
+    × (at + 4 * alternatives ≡ offset b 3 + 4 * first + 4 * n) × (slot + 21 * alternatives ≡ 21 * n) × Carried e b p t n (offset b 3 + 4 * first) kept
 
 abbrev μ-settled : tie.MeasureT-settled
-μ-settled e b p first n t found₀ alternatives₀ at₀ found alternatives at = alternatives
+μ-settled e b p first n t kept₀ found₀ alternatives₀ at₀ slot₀ kept found alternatives at slot = alternatives
 
 settled-holds : tie.Need-settled-holds Inv-loop μ-loop Inv-settled μ-settled
-settled-holds c = (refl, omega arith, omega arith, rw (c .number-at .ensures .0))
+settled-holds c =
+    (refl, omega arith, omega arith, rw (c .number-at .ensures .0), omega (arith, c .number-at .ensures .0), omega arith, c .before .before .before .before .pre)
+
+settle-requires : tie.Need-settle-requires Inv-loop μ-loop Inv-settled μ-settled
+settle-requires c κs =
+    let a = c .before .alternative-at .ensures in
+    let s = c .before .before .before .settled .inv in (
+      a .1,
+      a .3,
+      a .4,
+      omega (arith, s .5),
+      slot-fits _ _ _ _ (s .5) (s .6 .long),
+      carried-at _ _ _ _ _ _ _ _ _ _ _ (s .6) (c .before .before .settled-test .taken) (s .1) (s .4) (s .5) (a .0),
+    )
+
+hold-so-far-requires : tie.Need-hold-so-far-requires Inv-loop μ-loop Inv-settled μ-settled
+hold-so-far-requires c κs = let a = c .before .before .before .before .before .before .before .before .before .before .before .alternative-at .ensures in omega (arith, a .3, a .4)
+
+tokens-left-requires : tie.Need-tokens-left-requires Inv-loop μ-loop Inv-settled μ-settled
+tokens-left-requires c κs =
+    let a = c .before .before .before .before .before .before .before .before .before .before .before .before .alternative-at .ensures in
+    (omega (arith, c .before .before .if2 .left), a .2, a .1, c .before .before .before .before .before .before .before .before .before .before .settle .ensures .0 .some (c .before .before .before .before .before .before .before .if1 .taken))
 
 loop-holds : tie.Need-loop-holds Inv-loop μ-loop Inv-settled μ-settled
 loop-holds c =
-    let alt = c .before .before .before .before .before .before in
-    let t = alt .before .before .before .before .before .before .args .t in (
-      alt .before .before .settled .inv .0,
-      omega (arith, c .tokens-of .ensures .1),
-      omega arith,
-      alt-named _ _ _ t _ _ _ _ (alt .alternative-at .ensures .0) (c .before .before .before .before .before .triggered .ensures) (c .before .before .before .if1 .left) (c .tokens-of .ensures .0),
+    let t = c .before .before .before .before .before .before .before .before .before .before .before .before .before .before .before .before .before .before .before .before .args .t in
+    let w = c .tokens-left .ensures in
+    let same = c .before .before .before .before .before .before .before .triggered .ensures in (
+      c .before .before .before .before .before .before .before .before .before .before .before .before .before .before .before .settled .inv .0,
+      w .0,
+      alt-placed _ _ _ t _ _ _ (c .before .before .before .before .before .before .before .before .before .before .before .before .before .alternative-at .ensures .0) same
+          ∙ place-some _ _ _ t _ 0 _ _ (begun-none _ _ _ t _ same) (omega arith) (c .before .before .before .if2 .left) (w .0) (w .1),
+    )
+
+sub-try-token : tie.Need-sub-try-token Inv-loop μ-loop Inv-settled μ-settled
+sub-try-token c = omega (arith, c .before .before .before .before .before .before .before .before .before .before .if2 .left)
+
+try-token-requires : tie.Need-try-token-requires Inv-loop μ-loop Inv-settled μ-settled
+try-token-requires c κs =
+    let a = c .before .before .before .before .before .before .before .before .before .before .before .before .before .before .before .before .before .before .before .before .before .before .alternative-at .ensures in
+    let t = c .before .before .before .before .before .before .before .before .before .before .before .before .before .before .before .before .before .before .before .before .before .before .before .before .before .before .before .before .before .args .t in (
+      omega (arith, c .before .before .before .before .before .before .before .before .before .before .before .before .if2 .left),
+      a .2,
+      a .1,
+      omega (arith, a .3, a .4),
+      begun-first _ _ _ t 0 _ _ _ _ (begun-none _ _ _ t _ (c .before .before .before .before .before .before .before .before .before .before .before .before .before .before .before .before .triggered .ensures)) (c .before .before .before .before .before .before .before .before .loop .inv .1) (c .before .before .before .before .before .before .before .loop-test .taken) (c .before .before .before .before .before .before .word-at .ensures) (c .before .before .before .before .before .word-at2 .ensures) (c .before .before .before .if4 .taken),
+      c .before .before .before .before .before .before .before .before .before .before .before .before .before .before .before .before .before .before .before .before .settle .ensures .0 .some (c .before .before .before .before .before .before .before .before .before .before .before .before .before .before .before .before .before .if1 .taken),
     )
 
 loop-again : tie.Need-loop-again Inv-loop μ-loop Inv-settled μ-settled
 loop-again c =
-    let w = c .before .before in
-    let some = w .before .before .loop-test .taken in
-    let l = w .before .before .before .loop in (
-      l .inv .0,
-      omega arith,
-      omega arith,
-      l .inv .3
-          ∙ token-next _ _ _ _ _ _ _ _ _ _ _ _ _ _ _
-          (⊎-elim
-          (λ g. token-miss _ _ _ _ _ _ _ _ _ _ _ _ _ _ _ _ _ _ some (w .before .word-at .ensures) (w .word-at2 .ensures) (g .0 .taken) (g .2 .ensures .0) (g .3 .left) (g .2 .ensures .1) (g .4))
-          (λ g. token-skip _ _ _ _ _ _ _ _ _ _ _ _ _ _ _ _ some (w .before .word-at .ensures) (w .word-at2 .ensures) (g .0 .left) (g .1))
-          (c .if3 .came)),
+    let some = c .before .before .before .before .loop-test .taken in
+    let l = c .before .before .before .before .before .loop .inv in (
+      l .0,
+      along-next _ _ _ _ _ _ some (c .before .before .before .word-at .ensures) (omega arith) (l .1),
+      l .2
+          ∙ ⊎-elim
+          (λ g. token-miss _ _ _ _ _ _ _ _ _ _ some (c .before .before .before .word-at .ensures) (c .before .before .word-at2 .ensures) (g .0 .taken) (g .4 .ensures) (g .5 .left))
+          (λ g. token-skip _ _ _ _ _ _ _ _ _ some (c .before .before .before .word-at .ensures) (c .before .before .word-at2 .ensures) (g .left))
+          (c .if4 .came),
     )
 
 settled-again : tie.Need-settled-again Inv-loop μ-loop Inv-settled μ-settled
 settled-again c =
-    let alt = c .before .before .before in
-    let a = alt .before .before .before .before .before .before .args in
-    let s = alt .before .before .settled in
+    let a = c .before .before .before .before .before .before .before .before .before .before .before .before .args in
+    let s = c .before .before .before .before .before .before .before .settled in
+    let alt = c .before .before .before .before .before .alternative-at .ensures .0 in
+    let some = c .before .before .before .before .before .before .settled-test .taken in
     let fails : metHere (a .e) (a .b .now) (a .p .now) (a .t) (s .at) ≡ false =
     ⊎-elim
-    (λ g. alt-placed _ _ _ (a .t) _ _ _ (alt .alternative-at .ensures .0) (c .before .before .triggered .ensures) ∙ sym (g .2 .ensures .0) ∙ g .3 .left)
-    (λ g. g .4 .inv .3 ∙ sym (token-none _ _ _ _ _ _ _ _ _ _ _ _ _ (g .5 .left)))
+    (λ g. alt-placed _ _ _ (a .t) _ _ _ alt (g .1 .ensures) ∙ place-none _ _ _ _ 0 _ _ (omega arith) (g .5 .taken) (g .7 .ensures) ∙ g .8 .left)
+    (⊎-elim
+    (λ g. g .9 .inv .2 ∙ sym (token-none _ _ _ _ _ _ _ (g .10 .left)))
+    (λ g. alt-placed _ _ _ (a .t) _ _ _ alt refl ∙ c .before .before .before .settle .ensures .0 .none (g .0 .left)))
     (c .if1 .came) in (
-      ⊎-elim (λ g. g .4 ∙ s .inv .0) (λ g. g .6 ∙ g .4 .inv .0) (c .if1 .came),
+      ⊎-elim (λ g. g .9 ∙ s .inv .0) (⊎-elim (λ g. g .11 ∙ g .9 .inv .0) (λ g. g .1 ∙ s .inv .0)) (c .if1 .came),
       omega arith,
       omega arith,
-      s .inv .3 ∙ alt-step _ _ _ _ _ _ _ (alt .before .settled-test .taken) fails,
+      s .inv .3 ∙ alt-step _ _ _ _ _ _ _ some fails,
+      omega (arith, s .inv .4),
+      omega (arith, s .inv .5),
+      carried-next _ _ _ _ _ _ _ _ _ _ _ (s .inv .6) some (s .inv .1) (s .inv .4) (s .inv .5) alt _ (c .before .before .before .settle .ensures .1) (c .before .before .before .settle .ensures .2),
     )
 
+same-length : tie.Need-same-length Inv-loop μ-loop Inv-settled μ-settled
+same-length c = c .before .settled .inv .6 .long ∙ sym (c .before .before .before .before .before .before .pre .long)
+
 returns : tie.Need-returns Inv-loop μ-loop Inv-settled μ-settled
-returns c = c .before .settled .inv .0 ∙ sym (c .before .settled .inv .3 ∙ alt-none _ _ _ _ _ _ (c .settled-test .left))
+returns c = (c .before .settled .inv .0 ∙ sym (c .before .settled .inv .3 ∙ alt-none _ _ _ _ _ _ (c .settled-test .left)), c .before .settled .inv .6)
+
+same-length-2 : tie.Need-same-length-2 Inv-loop μ-loop Inv-settled μ-settled
+same-length-2 c = c .before .before .before .before .before .before .before .before .before .before .before .settle .ensures .2 .long ∙ c .before .before .before .before .before .before .before .before .before .before .before .before .before .before .before .settled .inv .6 .long ∙ sym (c .before .before .before .before .before .before .before .before .before .before .before .before .before .before .before .before .before .before .before .before .pre .long)
 
 returns-2 : tie.Need-returns-2 Inv-loop μ-loop Inv-settled μ-settled
 returns-2 c =
-    let alt = c .before .before .before .before .before .before in
-    let t = alt .before .before .before .before .before .before .args .t in
-    sym
-    (alt .before .before .settled .inv .3
-    ∙ alt-step _ _ _ _ _ _ _ (alt .before .settled-test .taken)
-    (alt-placed _ _ _ t _ _ _ (alt .alternative-at .ensures .0) (c .before .before .before .before .before .triggered .ensures) ∙ sym (c .before .place .ensures .0) ∙ c .if2 .taken))
+    let t = c .before .before .before .before .before .before .before .before .before .before .before .before .before .before .before .before .before .before .before .before .args .t in
+    let s = c .before .before .before .before .before .before .before .before .before .before .before .before .before .before .before .settled .inv in
+    let alt = c .before .before .before .before .before .before .before .before .before .before .before .before .before .alternative-at .ensures .0 in
+    let some = c .before .before .before .before .before .before .before .before .before .before .before .before .before .before .settled-test .taken in (
+      sym
+          (s .3
+          ∙ alt-step _ _ _ _ _ _ _ some
+          (alt-placed _ _ _ t _ _ _ alt (c .before .before .before .before .before .before .before .triggered .ensures) ∙ place-none _ _ _ _ 0 _ _ (omega arith) (c .before .before .before .if2 .taken) (c .before .hold-so-far .ensures) ∙ c .if3 .taken)),
+      carried-next _ _ _ _ _ _ _ _ _ _ _ (s .6) some (s .1) (s .4) (s .5) alt _ (c .before .before .before .before .before .before .before .before .before .before .before .settle .ensures .1) (c .before .before .before .before .before .before .before .before .before .before .before .settle .ensures .2),
+    )
+
+same-length-3 : tie.Need-same-length-3 Inv-loop μ-loop Inv-settled μ-settled
+same-length-3 c = c .before .before .before .before .before .before .before .before .before .before .before .before .before .before .before .before .before .before .before .before .before .before .settle .ensures .2 .long ∙ c .before .before .before .before .before .before .before .before .before .before .before .before .before .before .before .before .before .before .before .before .before .before .before .before .before .before .settled .inv .6 .long ∙ sym (c .before .before .before .before .before .before .before .before .before .before .before .before .before .before .before .before .before .before .before .before .before .before .before .before .before .before .before .before .before .before .before .pre .long)
 
 returns-3 : tie.Need-returns-3 Inv-loop μ-loop Inv-settled μ-settled
 returns-3 c =
-    let w = c .before .before .before .before .before in
-    let l = w .before .before .before .loop in
-    let s = w .before .before .before .before .before .before .before .before .before .before in
-    sym
-    (s .before .before .settled .inv .3
-    ∙ alt-step _ _ _ _ _ _ _ (s .before .settled-test .taken)
-    (l .inv .3 ∙ sym (token-hit _ _ _ _ _ _ _ _ _ _ _ _ _ _ _ _ (w .before .before .loop-test .taken) (w .before .word-at .ensures) (w .word-at2 .ensures) (c .before .before .before .if3 .taken) (c .before .try-token .ensures .0) (c .if4 .taken))))
+    let s = c .before .before .before .before .before .before .before .before .before .before .before .before .before .before .before .before .before .before .before .before .before .before .before .before .before .before .settled .inv in
+    let alt = c .before .before .before .before .before .before .before .before .before .before .before .before .before .before .before .before .before .before .before .before .before .before .before .before .alternative-at .ensures .0 in
+    let some = c .before .before .before .before .before .before .before .before .before .before .before .before .before .before .before .before .before .before .before .before .before .before .before .before .before .settled-test .taken in (
+      sym
+          (s .3
+          ∙ alt-step _ _ _ _ _ _ _ some
+          (c .before .before .before .before .before .before .before .before .before .before .loop .inv .2 ∙ sym (token-hit _ _ _ _ _ _ _ _ _ _ (c .before .before .before .before .before .before .before .before .before .loop-test .taken) (c .before .before .before .before .before .before .before .before .word-at .ensures) (c .before .before .before .before .before .before .before .word-at2 .ensures) (c .before .before .before .before .before .if4 .taken) (c .before .try-token .ensures) (c .if5 .taken)))),
+      carried-next _ _ _ _ _ _ _ _ _ _ _ (s .6) some (s .1) (s .4) (s .5) alt _ (c .before .before .before .before .before .before .before .before .before .before .before .before .before .before .before .before .before .before .before .before .before .before .settle .ensures .1) (c .before .before .before .before .before .before .before .before .before .before .before .before .before .before .before .before .before .before .before .before .before .before .settle .ensures .2),
+    )
 
 pub met-spec : {M : Type 1} → statement M
 met-spec =
@@ -109,26 +167,30 @@ met-spec =
     (λ c. search needs)
     settled-holds
     (λ c κs. search needs)
+    settle-requires
     (λ c κs. search needs)
-    (λ c κs. search needs)
-    (λ c. search needs)
-    (λ c. search needs)
-    (λ c κs. search needs)
+    hold-so-far-requires
+    tokens-left-requires
     loop-holds
-    (λ c. search needs)
+    (λ c. omega (arith, c .before .loop .inv .1 .room, c .loop-test .taken))
     (λ c κs. search needs)
     (λ c. search needs)
-    (λ c. search needs)
+    (λ c. omega (arith, c .before .before .loop .inv .1 .small, c .before .loop-test .taken))
     (λ c κs. search needs)
-    (λ c κs. search needs)
-    (λ c. search needs)
+    sub-try-token
+    try-token-requires
+    (λ c. omega (arith, c .before .before .before .before .before .loop .inv .1 .room, c .before .before .before .before .loop-test .taken))
     (λ c. search needs)
     (λ c. search needs)
     loop-again
     (λ c. search needs)
     (λ c. search needs)
     (λ c. search needs)
+    (λ c. search needs)
     settled-again
+    same-length
     returns
+    same-length-2
     returns-2
+    same-length-3
     returns-3)

@@ -3,7 +3,7 @@
 use borrow.Author.Needs.{needs}
 use native.Mathlib.Omega.{arith}
 use Prim.Native.Nat.{_-_}
-use Rattle.verdict.specs.Steps.{OnRules, rules-start, rules-met, rules-fit, rules-unmet, rules-end}
+use Rattle.verdict.proofs.Steps.{OnRules, rules-start, rules-met, rules-fit, rules-unmet, rules-end}
 use Rattle.verdict.proofs.examine.Statement.{statement}
 use Rattle.verdict.proofs.examine.Tie as tie
 

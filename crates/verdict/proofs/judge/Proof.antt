@@ -1,7 +1,7 @@
 -- `verdict::judge` meets its contract: table 5 read as atoms or by place, the judge's answer is the same. Assumes nothing.
 use mathlib.Core.Path.{sym, _∙_}
 use borrow.Author.Needs.{needs}
-use Rattle.verdict.specs.Typed.{judged-is}
+use Rattle.verdict.proofs.Typed.{judged-is}
 use Rattle.verdict.proofs.judge.Statement.{statement}
 use Rattle.verdict.proofs.judge.Tie as tie
 

@@ -1,6 +1,6 @@
 -- `verdict::judge_by` meets its contract, stage by stage; the count fits, since the book and the plan have no fault. Assumes nothing.
 use borrow.Author.Needs.{needs}
-use Rattle.verdict.specs.Stages.{book-first, plan-second, rules-few, rules-third}
+use Rattle.verdict.proofs.Stages.{book-first, plan-second, rules-few, rules-third}
 use Rattle.verdict.proofs.judge_by.Statement.{statement}
 use Rattle.verdict.proofs.judge_by.Tie as tie
 

@@ -1,7 +1,7 @@
 -- `verdict::judge_sheet` meets its contract: table 5 read as constraints or by place, the judge's answer is the same. Assumes nothing.
 use mathlib.Core.Path.{sym, _∙_}
 use borrow.Author.Needs.{needs}
-use Rattle.verdict.specs.Typed.{sheet-is}
+use Rattle.verdict.proofs.Typed.{sheet-is}
 use Rattle.verdict.proofs.judge_sheet.Statement.{statement}
 use Rattle.verdict.proofs.judge_sheet.Tie as tie
 

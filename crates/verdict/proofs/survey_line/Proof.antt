@@ -2,18 +2,28 @@
 -- and no sum wraps. The measure is the number of tokens left. Assumes nothing.
 use borrow.Author.Needs.{needs}
 use native.Mathlib.Omega.{arith}
+use mathlib.Core.Path.{refl}
 use mathlib.Core.Logic.{⊎-elim}
-use Prim.Native.Nat.{_-_}
-use Rattle.verdict.specs.Steps.{RuleWords, OnLine, line-start, line-other, line-met, line-unmet, line-end}
+use Prim.Native.Nat.{ℕ, _-_, _+_, _*_}
+use Rattle.layout.specs.Layout.{offset}
+use Rattle.lines.specs.declared.Token.{Token}
+use Rattle.lines.specs.Lines.{token}
+use Rattle.matching.specs.Carried.{Carried}
+use Rattle.matching.proofs.Carrying.{carried-fresh, carried-later}
+use Rattle.verdict.proofs.Steps.{RuleWords, OnLine, line-start, line-other, line-met, line-unmet, line-end}
 use Rattle.verdict.proofs.survey_line.Statement.{statement}
 use Rattle.verdict.proofs.survey_line.Tie as tie
 
+-- nothing is at `start` yet: each token that comes is later
+abbrev from : ℕ → Token
+from start = token 0 start start
+
 abbrev Inv-loop : tie.InvT-loop
-Inv-loop e b p place line value first n count at₀ start₀ token₀ seen₀ at start token seen =
-    RuleWords b place value first n × OnLine e b p place count at start token seen
+Inv-loop e b p place line value first n count at₀ start₀ token₀ seen₀ kept₀ at start token seen kept =
+    RuleWords b place value first n × OnLine e b p place count at start token seen × Carried e b p (from start) n (offset b 3 + 4 * first) kept
 
 abbrev μ-loop : tie.MeasureT-loop
-μ-loop e b p place line value first n count at₀ start₀ token₀ seen₀ at start token seen = count - token
+μ-loop e b p place line value first n count at₀ start₀ token₀ seen₀ kept₀ at start token seen kept = count - token
 
 loop-holds : tie.Need-loop-holds Inv-loop μ-loop
 loop-holds c =
@@ -23,7 +33,15 @@ loop-holds c =
       record { triggered = some; value = n .before .before .word-at .ensures; first = n .before .word-at2 .ensures; number = n .word-at3 .ensures },
       line-start _ _ _ _ _ _ _ _ some (l .number-at .ensures .0) (c .before .before .word-at4 .ensures) (c .before .number-at2 .ensures .0)
           (c .number-at3 .ensures .0) (omega arith) (omega arith) (omega arith),
+      carried-fresh _ _ _ _ _ _ _ refl refl,
     )
+
+slice-aggregate-met : tie.Need-slice-aggregate-met Inv-loop μ-loop
+slice-aggregate-met c = search needs
+
+met-requires : tie.Need-met-requires Inv-loop μ-loop
+met-requires c κs =
+    carried-later _ _ _ _ _ _ _ _ (record { start = omega arith; end = omega arith }) (c .before .before .before .before .before .loop .inv .2)
 
 loop-again : tie.Need-loop-again Inv-loop μ-loop
 loop-again c =
@@ -33,8 +51,12 @@ loop-again c =
     let d = w .before .word-at5 .ensures in (
       l .0,
       ⊎-elim
-          (λ o. rw (o .3) (line-met (l .1) (l .0) _ _ more d (w .word-at6 .ensures) _ (omega arith) (o .0 .taken) (o .1 .ensures) (o .2 .left)))
+          (λ o. rw (o .5) (line-met (l .1) (l .0) _ _ more d (w .word-at6 .ensures) _ (omega arith) (o .0 .taken) (o .2 .ensures .0) (o .4 .left)))
           (λ o. rw (o .1) (line-other (l .1) (l .0) _ _ more d (w .word-at6 .ensures) (omega arith) (o .0 .left)))
+          (c .if1 .came),
+      ⊎-elim
+          (λ o. rw (o .6) (carried-later _ _ _ _ _ _ _ _ (record { start = omega arith; end = omega arith }) (o .2 .ensures .1)))
+          (λ o. rw (o .2) (carried-later _ _ _ _ _ _ _ _ (record { start = omega arith; end = omega arith }) (l .2)))
           (c .if1 .came),
     )
 
@@ -43,7 +65,7 @@ returns c =
     let l = c .before .loop .inv in
     ⊎-elim
     (λ o. line-end (l .1) (o .left))
-    (λ o. line-unmet (l .1) (l .0) _ _ (o .0 .taken) (o .1 .ensures) (o .2 .ensures) _ (o .3 .taken) (o .4 .ensures) (o .5 .taken))
+    (λ o. line-unmet (l .1) (l .0) _ _ (o .0 .taken) (o .1 .ensures) (o .2 .ensures) _ (o .3 .taken) (o .5 .ensures .0) (o .7 .taken))
     (c .loop-test .came)
 
 pub survey-line-spec : {M : Type 1} → statement M
@@ -76,7 +98,8 @@ survey-line-spec =
     (λ c. search needs)
     (λ c. search needs)
     (λ c κs. search needs)
-    (λ c κs. search needs)
+    slice-aggregate-met
+    met-requires
     (λ c. search needs)
     (λ c. search needs)
     (λ c. search needs)

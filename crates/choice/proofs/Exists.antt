@@ -1,0 +1,175 @@
+-- What the search's answer means: a trigger token meets a rule exactly if there is an alternative of the rule, and a token for each of its
+-- names, so that all that it asks holds. Shown by going down the names. Assumes nothing.
+use mathlib.Core.Path.{_≡_, refl, sym, ap, _∙_}
+use mathlib.Core.Bool.{Bool, true, false, _&&_, _||_, false≢true}
+use mathlib.Core.Logic.{_⊎_, inl, inr, ⊎-elim, _↔_}
+use mathlib.Core.List.{List, [], _∷_}
+use Prim.Native.Nat.{ℕ, zero, suc, _+_, _*_, _≤_, _<_}
+use native.Mathlib.Omega.{arith}
+use lib.Dec.{eqb}
+use lib.ListN.{length, getD, List·getD-eq-default}
+use borrow.Author.Tests.{eqb-true, eq-eqb}
+use Rattle.words.specs.Lists.{any, all}
+use Rattle.book.specs.Rules.{Name, Alternative, Rule}
+use Rattle.lines.specs.declared.Token.{Token}
+use Rattle.choice.specs.Met.{Choice, nobody, triggered, put, tokenTime, place, alternativeMet, met}
+use Rattle.choice.specs.Exists.{Among, Serves, chosen, choiceOf, noName, Meets, Met, Placed}
+
+-- ---- laws of tests over a list
+
+pub and-both : (a b : Bool) → (a && b) ≡ true → (a ≡ true) × (b ≡ true)
+and-both true b h = (refl, h)
+and-both false b h = absurd (false≢true h)
+
+or-one : (a b : Bool) → (a || b) ≡ true → (a ≡ true) ⊎ (b ≡ true)
+or-one true b h = inl refl
+or-one false b h = inr h
+
+or-right : (a b : Bool) → b ≡ true → (a || b) ≡ true
+or-right true b h = refl
+or-right false b h = h
+
+module _ {A : Type 0} where
+  pub among-first : (x : A) (xs : List A) → Among x (x ∷ xs)
+  among-first x xs = record { index = 0; within = omega arith; here = refl }
+
+  pub among-later : {x : A} {xs : List A} (y : A) → Among x xs → Among x (y ∷ xs)
+  among-later y m = record { index = suc (m .index); within = omega (arith, m .within); here = m .here }
+
+  -- a test that one of xs passes
+  pub any-some : (p : A → Bool) (xs : List A) → any p xs ≡ true → (x : A) × Among x xs × (p x ≡ true)
+  unfolding any
+  any-some p [] h = absurd (false≢true h)
+  any-some p (x ∷ xs) h =
+      ⊎-elim (λ e. (x, among-first x xs, e)) (λ e. let s = any-some p xs e in (s .0, among-later x (s .1), s .2)) (or-one (p x) (any p xs) h)
+
+  any-at : (p : A → Bool) (d : A) (xs : List A) (i : ℕ) → i < length xs → p (getD xs i d) ≡ true → any p xs ≡ true
+  unfolding any
+  any-at p d [] i l h = absurd (omega arith)
+  any-at p d (x ∷ xs) zero l h = rw h
+  any-at p d (x ∷ xs) (suc i) l h = or-right (p x) _ (any-at p d xs i (omega arith) h)
+
+  pub some-any : (p : A → Bool) (xs : List A) (x : A) → Among x xs → p x ≡ true → any p xs ≡ true
+  some-any p xs x m h = any-at p x xs (m .index) (m .within) (ap p (m .here) ∙ h)
+
+  -- a test that every one passes
+  all-each : (p : A → Bool) (xs : List A) → all p xs ≡ true → (d : A) (i : ℕ) → i < length xs → p (getD xs i d) ≡ true
+  unfolding all
+  all-each p [] h d i l = absurd (omega arith)
+  all-each p (x ∷ xs) h d zero l = and-both (p x) _ h .0
+  all-each p (x ∷ xs) h d (suc i) l = all-each p xs (and-both (p x) _ h .1) d i (omega arith)
+
+  each-all : (p : A → Bool) (xs : List A) → ((x : A) → Among x xs → p x ≡ true) → all p xs ≡ true
+  unfolding all
+  each-all p [] h = refl
+  each-all p (x ∷ xs) h = rw (h x (among-first x xs), each-all p xs (λ y m. h y (among-later x m)))
+
+-- ---- the names
+
+module _ (lines : ℕ → List Token) (p : Choice → Bool) where
+  placed-more : (n : Name) (ns : List Name) (k : ℕ) (c : Choice) (t : Token) (ts : List Token) → Serves lines n t
+      → Placed lines p ns (k + 1) (put c k (t .start .tick) (t .end .tick)) ts → Placed lines p (n ∷ ns) k c (t ∷ ts)
+  unfolding chosen
+  placed-more n ns k c t ts s q = record { each = ap suc (q .each); serve = serve; pass = q .pass }
+    where
+      serve : (i : ℕ) → i < suc (length ns) → Serves lines (getD (n ∷ ns) i noName) (getD (t ∷ ts) i nobody)
+      serve zero l = s
+      serve (suc i) l = q .serve i (omega arith)
+
+  pub placed-of : (ns : List Name) (k : ℕ) (c : Choice) → place lines p ns k c ≡ true → (ts : List Token) × Placed lines p ns k c ts
+  unfolding place chosen
+  placed-of [] k c h = ([], record { each = refl; serve = λ i l. absurd (omega arith); pass = h })
+  placed-of (n ∷ ns) k c h =
+      let s = any-some _ (lines (n .variable)) h in
+      let t = s .0 in
+      let b = and-both (eqb (t .value) (n .value)) _ (s .2) in
+      let q = placed-of ns (k + 1) (put c k (t .start .tick) (t .end .tick)) (b .1) in
+      (t ∷ q .0, placed-more n ns k c t (q .0) (record { variable = s .1; value = eqb-true _ _ (b .0) }) (q .1))
+
+  pub of-placed : (ns : List Name) (k : ℕ) (c : Choice) (ts : List Token) → Placed lines p ns k c ts → place lines p ns k c ≡ true
+  unfolding place chosen
+  of-placed [] k c [] q = q .pass
+  of-placed [] k c (t ∷ ts) q = absurd (omega (arith, q .each))
+  of-placed (n ∷ ns) k c [] q = absurd (omega (arith, q .each))
+  of-placed (n ∷ ns) k c (t ∷ ts) q =
+      let s = q .serve 0 (omega arith) in
+      let rest : Placed lines p ns (k + 1) (put c k (t .start .tick) (t .end .tick)) ts =
+      record { each = omega (arith, q .each); serve = λ i l. q .serve (suc i) (omega arith); pass = q .pass } in
+      some-any _ (lines (n .variable)) t (s .variable)
+      (rw (eq-eqb _ _ (s .value)) (of-placed ns (k + 1) (put c k (t .start .tick) (t .end .tick)) ts rest))
+
+-- ---- the theorems
+
+module _ {C : Type 0} (holds : Choice → C → Bool) (lines : ℕ → List Token) (t : Token) where
+  -- an alternative is met exactly if there are tokens that meet it
+  pub alternative-iff : (a : Alternative C) → (alternativeMet holds lines (triggered t) a ≡ true) ↔ ((ts : List Token) × Meets holds lines t a ts)
+  unfolding alternativeMet choiceOf
+  alternative-iff a =
+      let p : Choice → Bool = λ d. all (holds d) (a .asks) in (
+        λ h. let q = placed-of lines p (a .names) 1 (triggered t) h in (
+          q .0,
+          record {
+            each = q .1 .each;
+            serve = q .1 .serve;
+            hold = λ x m. ap (holds (chosen (triggered t) 1 (q .0))) (sym (m .here)) ∙ all-each _ (a .asks) (q .1 .pass) x (m .index) (m .within);
+          },
+        ),
+        λ q. of-placed lines p (a .names) 1 (triggered t) (q .0)
+            (record { each = q .1 .each; serve = q .1 .serve; pass = each-all _ (a .asks) (q .1 .hold) }),
+      )
+
+  -- THE THEOREM: the search's answer is true exactly if there is an alternative, and a token for each of its names
+  pub met-iff : (r : Rule C) → (met holds lines r t ≡ true) ↔ Met holds lines r t
+  unfolding met
+  met-iff r = (
+    λ h. let s = any-some _ (r .alternatives) h in
+        let q = alternative-iff (s .0) .0 (s .2) in
+        record { alternative = s .0; tokens = q .0; ofRule = s .1; meets = q .1 },
+    λ q. some-any _ (r .alternatives) (q .alternative) (q .ofRule) (alternative-iff (q .alternative) .1 (q .tokens, q .meets)),
+  )
+
+-- ---- which times the choice has
+
+-- start and end of five tokens, and nobody's where there are fewer
+abbrev laid : List Token → Choice
+laid l =
+    getD l 0 nobody .start .tick
+    ∷ getD l 0 nobody .end .tick
+    ∷ getD l 1 nobody .start .tick
+    ∷ getD l 1 nobody .end .tick
+    ∷ getD l 2 nobody .start .tick
+    ∷ getD l 2 nobody .end .tick
+    ∷ getD l 3 nobody .start .tick
+    ∷ getD l 3 nobody .end .tick
+    ∷ getD l 4 nobody .start .tick
+    ∷ getD l 4 nobody .end .tick
+    ∷ []
+
+choice-laid : (t : Token) (ts : List Token) → length ts ≤ 4 → choiceOf t ts ≡ laid (t ∷ ts)
+unfolding choiceOf chosen put
+choice-laid t [] l = refl
+choice-laid t (a ∷ []) l = refl
+choice-laid t (a ∷ (b ∷ [])) l = refl
+choice-laid t (a ∷ (b ∷ (c ∷ []))) l = refl
+choice-laid t (a ∷ (b ∷ (c ∷ (d ∷ [])))) l = refl
+choice-laid t (a ∷ (b ∷ (c ∷ (d ∷ (e ∷ ts))))) l = absurd (omega arith)
+
+laid-time : (l : List Token) (k : ℕ) → length l ≤ 5
+    → (tokenTime (laid l) 0 k ≡ getD l k nobody .start .tick) × (tokenTime (laid l) 1 k ≡ getD l k nobody .end .tick)
+unfolding tokenTime
+laid-time l zero h = (refl, refl)
+laid-time l (suc zero) h = (refl, refl)
+laid-time l (suc (suc zero)) h = (refl, refl)
+laid-time l (suc (suc (suc zero))) h = (refl, refl)
+laid-time l (suc (suc (suc (suc zero)))) h = (refl, refl)
+laid-time l (suc (suc (suc (suc (suc k))))) h =
+    let j = suc (suc (suc (suc (suc k)))) in
+    let past = List·getD-eq-default l nobody {n = j} (omega arith) in (
+      List·getD-eq-default (laid l) 0 {n = 2 * j + 0} (omega arith) ∙ ap (λ (t : Token). t .start .tick) (sym past),
+      List·getD-eq-default (laid l) 1 {n = 2 * j + 1} (omega arith) ∙ ap (λ (t : Token). t .end .tick) (sym past),
+    )
+
+-- the start and the end that an argument names are those of its token: "0 for the trigger or 1..n for the alternative's names"
+pub choice-time : (t : Token) (ts : List Token) (k : ℕ) → length ts ≤ 4
+    → (tokenTime (choiceOf t ts) 0 k ≡ getD (t ∷ ts) k nobody .start .tick) × (tokenTime (choiceOf t ts) 1 k ≡ getD (t ∷ ts) k nobody .end .tick)
+choice-time t ts k h = rw (choice-laid t ts h) (laid-time (t ∷ ts) k (omega arith))

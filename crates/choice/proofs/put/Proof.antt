@@ -1,0 +1,15 @@
+-- `choice::put` meets its contract: the two stores are the definition's. Assumes nothing.
+use mathlib.Core.Path.{_∙_}
+use borrow.Author.Needs.{needs}
+use Rattle.choice.specs.Met.{put}
+use Rattle.choice.proofs.put.Statement.{statement}
+use Rattle.choice.proofs.put.Tie as tie
+
+returns : tie.Need-returns
+unfolding put
+returns c = c .set-time2 .ensures ∙ rw (c .before .before .set-time .ensures)
+
+pub put-spec : {M : Type 1} → statement M
+put-spec =
+    tie.close
+    (tie.spec (λ c. search needs) (λ c κs. search needs) (λ c. search needs) (λ c. search needs) (λ c κs. search needs) returns)

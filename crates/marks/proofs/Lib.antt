@@ -1,0 +1,5 @@
+-- The laws of the marks, for the proofs of this crate and of those that link it.
+pub mod Lines
+pub mod Sides
+pub mod Choices
+pub mod Marks

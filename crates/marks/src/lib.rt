@@ -1,0 +1,232 @@
+// Marks: for each name of an alternative a token such that none in front of it serves in any choice; the marks are raised until no ask tells
+// of one that it is too early.
+ghost use mathlib.Core.Path.{_≡_};
+ghost use mathlib.Core.Bool.{true, false};
+ghost use Prim.Native.Nat.{_+_, _*_, _<_, _≤_, _^_};
+ghost use lib.ListN.{length};
+ghost use Rattle.choice.specs.Met.{triggered, tokenTime};
+ghost use Rattle.choice.specs.Asked.{askHolds, asksHold};
+ghost use Rattle.marks.specs.Marked.{Sought, Advanced, nextOf, Told, whose, within, askAt, Marked, Started, Raised};
+use choice::Alternative;
+use choice::Tokens;
+use choice::put;
+use choice::token_time;
+use clock::Time;
+use lines::Token;
+use words::word_at;
+
+// A token of a line: how many are left from it on, where its words are, and its times.
+pub struct Seen {
+    pub left: u64,
+    pub place: usize,
+    pub start: u64,
+    pub end: u64,
+}
+
+// The first of some tokens that has the value that is asked for; none is left where none has it.
+fn seek(p: &[u32], w: Tokens) -> Seen
+    requires { ⌜ (w .place + 2 * w .count < 2 ^ 60) × (w .start + 4294967296 * w .count < 2 ^ 64) ⌝ }
+    ensures { λ r. ⌜ Sought (now (p .entry)) w r ⌝ }
+{
+    let mut left = w.count;
+    let mut at = w.place;
+    let mut from = w.start;
+    while left != 0 {
+        let end = from + word_at(p, at + 1) as u64;
+        if word_at(p, at) == w.value {
+            return Seen {
+                left,
+                place: at,
+                start: from,
+                end,
+            };
+        }
+        from = end;
+        at += 2;
+        left -= 1;
+    }
+    Seen {
+        left: 0,
+        place: at,
+        start: from,
+        end: from,
+    }
+}
+
+// Marks for name number k the first of some tokens that has its value, if there is one: c has the times of the marked tokens, and r the
+// tokens left there and the place.
+fn advance(p: &[u32], c: &mut [u64; 10], r: &mut [u64; 10], k: usize, w: Tokens) -> bool
+    requires { ⌜ (k < 2 ^ 60) × (w .place + 2 * w .count < 2 ^ 60) × (w .start + 4294967296 * w .count < 2 ^ 64) ⌝ }
+    ensures { λ f. ⌜ Advanced (now (p .entry)) k w (now (c .entry)) (now (r .entry)) (now (c .exit)) (now (r .exit)) f ⌝ }
+{
+    let s = seek(p, w);
+    if s.left == 0 {
+        return false;
+    }
+    put(c, k, s.start, s.end);
+    put(r, k, s.left, s.place as u64);
+    true
+}
+
+// Marks the first token of its value for each name of an alternative.
+pub fn start_marks(
+    b: &[u32],
+    p: &[u32],
+    t: Token,
+    a: Alternative,
+    c: &mut [u64; 10],
+    r: &mut [u64; 10],
+) -> bool
+    requires { ⌜ (a .names ≤ 4) × (a .name < 2 ^ 40) × (now c ≡ triggered t) × (length (now r) ≡ 10) ⌝ }
+    ensures { λ f. ⌜ Started (now (b .entry)) (now (p .entry)) a t f (now (c .exit)) (now (r .exit)) ⌝ }
+{
+    let mut k: usize = 0;
+    while k < a.names {
+        let w = choice::tokens_of(b, p, a.name + 2 * k);
+        if !advance(p, c, r, k + 1, w) {
+            return false;
+        }
+        k += 1;
+    }
+    true
+}
+
+// Moves the mark of name number k to the next token of its value, if there is one.
+fn move_mark(
+    b: &[u32],
+    p: &[u32],
+    a: Alternative,
+    k: u32,
+    c: &mut [u64; 10],
+    r: &mut [u64; 10],
+) -> bool
+    requires { ⌜ (1 ≤ k) × (a .name < 2 ^ 40) × (tokenTime (now r) 0 k ≡ 0 → ⊥) × (nextOf (now b) a k (now c) (now r) .place + 2 * nextOf (now b) a k (now c) (now r) .count < 2 ^ 60) × (nextOf (now b) a k (now c) (now r) .start + 4294967296 * nextOf (now b) a k (now c) (now r) .count < 2 ^ 64) ⌝ }
+    ensures { λ f. ⌜ Advanced (now (p .entry)) k (nextOf (now (b .entry)) a k (now (c .entry)) (now (r .entry))) (now (c .entry)) (now (r .entry)) (now (c .exit)) (now (r .exit)) f ⌝ }
+{
+    let value = word_at(b, a.name + 2 * (k as usize - 1) + 1);
+    let count = token_time(r, 0, k) - 1;
+    let place = token_time(r, 1, k) as usize + 2;
+    let start = token_time(c, 1, k);
+    advance(
+        p,
+        c,
+        r,
+        k as usize,
+        Tokens {
+            value,
+            count,
+            place,
+            start,
+        },
+    )
+}
+
+// Which name is too early: in every choice it has a later token than the marked one. Number 0 is the trigger, or what no mark moves.
+pub enum Early {
+    Name(u32),
+    Nobody,
+}
+
+// The number of the name that a term is of, if it is of one of n names.
+fn whose(kind: u32, x: u32, n: usize) -> u32
+    ensures { λ r. ⌜ r ≡ whose kind x n ⌝ }
+{
+    if (kind < 2) & (x as usize <= n) { x } else { 0 }
+}
+
+// What two terms at the marks tell, which have to be within bounds: below lower the right one is too early, above upper the left one.
+fn bounds_early(
+    c: &[u64; 10],
+    n: usize,
+    i: u32,
+    x: u32,
+    j: u32,
+    y: u32,
+    lower: u32,
+    upper: u32,
+) -> Early
+    ensures { λ r. ⌜ Told (now (c .entry)) n r (within i x j y lower upper) ⌝ }
+{
+    if (i > 2) | (j > 2) {
+        return Early::Nobody;
+    }
+    let left = choice::term(c, i, x);
+    let right = choice::term(c, j, y);
+    if left.in_bounds(right, lower, upper) {
+        return Early::Nobody;
+    }
+    if left.in_bounds(right, lower, Time::NO_LIMIT) {
+        return Early::Name(whose(i, x, n));
+    }
+    Early::Name(whose(j, y, n))
+}
+
+// What the ask at a place tells.
+fn ask_early(e: usize, b: &[u32], c: &[u64; 10], n: usize, place: usize) -> Early
+    requires { ⌜ place < 2 ^ 60 ⌝ }
+    ensures { λ r. ⌜ Told (now (c .entry)) n r (askAt e (now (b .entry)) place) ⌝ }
+{
+    if e == 2 {
+        return Early::Nobody;
+    }
+    let i = word_at(b, place);
+    let x = word_at(b, place + 1);
+    let j = word_at(b, place + 2);
+    let y = word_at(b, place + 3);
+    let lower = word_at(b, place + 4);
+    let upper = word_at(b, place + 5);
+    bounds_early(c, n, i, x, j, y, lower, upper)
+}
+
+// What the first ask of an alternative that tells a name tells.
+fn asks_early(b: &[u32], a: Alternative, c: &[u64; 10]) -> Early
+    requires { ⌜ a .ask + 8 * a .asks < 2 ^ 60 ⌝ }
+    ensures { λ r. ⌜ Told (now (c .entry)) (a .names) r (asksHold (now (b .entry)) a) ⌝ }
+{
+    let e = a.edition;
+    let width = choice::fifth_width(e);
+    let mut asks = a.asks;
+    let mut place = a.ask;
+    while asks != 0 {
+        let s = ask_early(e, b, c, a.names, place);
+        if let Early::Name(k) = s {
+            return Early::Name(k);
+        }
+        asks -= 1;
+        place += width;
+    }
+    Early::Nobody
+}
+
+// What raising found: marks from which the choices are to be searched, or no choice for this trigger token, or none for a later one either.
+pub enum Found {
+    Marks,
+    NoneNow,
+    NoneEver,
+}
+
+// Raises the marks until no ask tells of a name that it is too early.
+pub fn raise(
+    b: &[u32],
+    p: &[u32],
+    t: Token,
+    a: Alternative,
+    c: &mut [u64; 10],
+    r: &mut [u64; 10],
+) -> Found
+    requires { ⌜ (a .ask + 8 * a .asks < 2 ^ 60) × (a .name < 2 ^ 40) × Marked (now b) (now p) a t (a .names) (now c) (now r) ⌝ }
+    ensures { λ f. ⌜ Raised (now (b .entry)) (now (p .entry)) a t (now (c .exit)) (now (r .exit)) f ⌝ }
+{
+    loop {
+        let s = asks_early(b, a, c);
+        let Early::Name(k) = s else {
+            return Found::Marks;
+        };
+        if k == 0 {
+            return Found::NoneNow;
+        }
+        if !move_mark(b, p, a, k, c, r) {
+            return Found::NoneEver;
+        }
+    }
+}
