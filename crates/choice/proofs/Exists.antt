@@ -13,7 +13,7 @@ use Rattle.words.specs.Lists.{any, all}
 use Rattle.book.specs.Rules.{Name, Alternative, Rule}
 use Rattle.lines.specs.declared.Token.{Token}
 use Rattle.choice.specs.Met.{Choice, nobody, triggered, put, tokenTime, place, alternativeMet, met}
-use Rattle.choice.specs.Exists.{Among, Serves, chosen, choiceOf, noName, Meets, Met, Placed}
+pub use Rattle.choice.specs.Exists.{Among, Serves, chosen, choiceOf, noName, Meets, Met, Placed}
 
 -- ---- laws of tests over a list
 

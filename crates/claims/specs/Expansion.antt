@@ -20,7 +20,7 @@ use Rattle.allen.specs.Relation.{conditions, relationOf, thirteen}
 use Rattle.allen.specs.One.{one-relation, relation-below}
 use Rattle.allen.specs.Atoms.{relations, atomsOf}
 use Rattle.choice.specs.Met.{Choice, nobody, triggered, put, tokenTime, timeOf, atomHolds, constraintHolds, place, alternativeMet, met}
-use Rattle.translator.specs.Expand.{keep, relationsIn, choices, atomsFor, expand, translate}
+use Rattle.listing.specs.Expand.{keep, relationsIn, choices, atomsFor, expand, translate}
 use Rattle.verdict.specs.Judged.{noRule, untriggered, triggerLine, isTrigger, examined, unmet, firstUnmet, ruleUnmet, rulesFault}
 use Rattle.claims.specs.Laws.{first-map, first-on}
 

@@ -10,7 +10,7 @@ use Rattle.book.specs.Rules.{Atom, Constraint, Alternative, Rule, rulesOf}
 use Rattle.book.specs.Encode.{constraints}
 use Rattle.book.specs.Sound.{Sound}
 use Rattle.allen.specs.Atoms.{relations, atomsOf}
-use Rattle.translator.specs.Expand.{choices, atomsFor, expand, translate}
+use Rattle.listing.specs.Expand.{choices, atomsFor, expand, translate}
 use Rattle.translator.specs.Translation.{rulesFor}
 use Rattle.claims.specs.Decoded.{AlternativeFine, RuleFine, ConstraintFine, sheet-rules}
 use Rattle.claims.specs.Laws.{all-map, all-flat}

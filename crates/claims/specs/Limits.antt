@@ -26,7 +26,7 @@ use Rattle.allen.specs.Relation.{relationOf}
 use Rattle.allen.specs.Atoms.{atomsOf}
 use Rattle.choice.specs.Met.{put, tokenTime, timeOf, atomHolds, constraintHolds, place, alternativeMet, met}
 use Rattle.verdict.specs.Judged.{counted, triggerLine, isTrigger, examined, unmet, firstUnmet, ruleUnmet, rulesFault, judged}
-use Rattle.translator.specs.Expand.{keep, relationsIn, choices, atomsFor, expand, translate}
+use Rattle.listing.specs.Expand.{keep, relationsIn, choices, atomsFor, expand, translate}
 use Rattle.translator.specs.Translation.{rulesFor, translated, tooMany, ruleFault, sizeFault, roomFault, translation}
 use Rattle.reader.specs.Opening.{lineFault, openFault}
 use Rattle.claims.specs.Inputs.{N, last, times, table, none, header, valuesBook, valueBook, ruleBook, namesBook, nameBook, fifthBook, atomBook, constraintSheet, freeAtom, twoBook, asked, wide, fours, long}

@@ -26,7 +26,7 @@ use Rattle.allen.specs.Relation.{relationOf}
 use Rattle.allen.specs.Atoms.{atomsOf}
 use Rattle.choice.specs.Met.{put, tokenTime, timeOf, atomHolds, constraintHolds, place, alternativeMet, met}
 use Rattle.verdict.specs.Judged.{counted, triggerLine, isTrigger, examined, unmet, firstUnmet, ruleUnmet, rulesFault, judged, judgedSheet}
-use Rattle.translator.specs.Expand.{keep, relationsIn, choices, atomsFor, expand, translate}
+use Rattle.listing.specs.Expand.{keep, relationsIn, choices, atomsFor, expand, translate}
 use Rattle.translator.specs.Translation.{rulesFor, translated, tooMany, ruleFault, sizeFault, roomFault, translation}
 
 -- "P1"

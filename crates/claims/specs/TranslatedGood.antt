@@ -23,7 +23,7 @@ use Rattle.book.proofs.Sound.{sound as soundOf, sound-back}
 use Rattle.book.proofs.Back.{stood}
 use Rattle.book.proofs.Inside.{Ranges, first-word, starts-next, ends-inside, owner-owns, value-ranges}
 use Rattle.verdict.specs.Judged.{noRule, judged, judgedSheet}
-use Rattle.translator.specs.Expand.{translate}
+use Rattle.listing.specs.Expand.{translate}
 use Rattle.translator.specs.Translation.{rulesFor, translated, translation, roomAfter}
 use Rattle.claims.specs.Translated.{variables-size, values-size, variable-kept, value-kept, says, read-back, translated-judged}
 use Rattle.claims.specs.Decoded.{RuleFine, ConstraintFine, RecordsFine, rules-fine, sheet-rules}

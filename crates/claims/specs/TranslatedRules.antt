@@ -17,7 +17,7 @@ use Rattle.book.specs.Rules.{Atom, Constraint, Alternative, Rule}
 use Rattle.book.specs.Sound.{BoundsSound, Exist, TokenSound, TermSound}
 use Rattle.allen.specs.Relation.{thirteen}
 use Rattle.allen.specs.Atoms.{Term, start, end, _<·_, _=·_, relations, atomsOf}
-use Rattle.translator.specs.Expand.{keep, relationsIn, choices, atomsFor, expand, translate}
+use Rattle.listing.specs.Expand.{keep, relationsIn, choices, atomsFor, expand, translate}
 use Rattle.claims.specs.Decoded.{NameFine, TriggerFine, AlternativeFine, RuleFine, ConstraintFine}
 use Rattle.claims.specs.FewAtoms.{atoms-few}
 use Rattle.claims.specs.Laws.{all-to, all-both, all-each, all-map, all-flat, run-all}

@@ -43,7 +43,7 @@ module _ (c : Choice) (n : ℕ) (test : Choice → Bool) where
   pub told-nobody : Told c n Nobody test
   told-nobody = record { behind = λ x h. absurd (omega (arith, ap code h)) }
 
-  told-name : (y : ℕ) → Behind c n y test → Told c n (Name y) test
+  pub told-name : (y : ℕ) → Behind c n y test → Told c n (Name y) test
   told-name y f = record { behind = λ x h. let q : y ≡ x = omega (arith, ap code h) in rw q at f }
 
 -- ---- bounds

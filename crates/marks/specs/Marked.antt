@@ -2,12 +2,12 @@
 -- trigger token or a later one. Start and end grow along a line, so the marked tokens are at most those of any choice; an ask that fails at
 -- the marks tells a side that is too early there, and if that side is a name's, its mark is moved on. Assumes nothing.
 use mathlib.Core.Path.{_≡_}
-use mathlib.Core.Bool.{Bool, true, false, _&&_, cond}
-use mathlib.Core.List.{List}
-use Prim.Native.Nat.{ℕ, _+_, _-_, _*_, _^_, _≤_, _<_}
+use mathlib.Core.Bool.{Bool, true, false, _&&_, _||_, not, cond}
+use mathlib.Core.List.{List, [], _∷_}
+use Prim.Native.Nat.{ℕ, suc, _+_, _-_, _*_, _^_, _≤_, _<_}
 use lib.Dec.{leb, ltb}
 use lib.ListN.{length, getD}
-use Rattle.words.specs.Words.{word}
+use Rattle.words.specs.Words.{word, inSet}
 use Rattle.words.specs.Runs.{run}
 use Rattle.clock.specs.Clock.{noLimit, inBounds}
 use Rattle.book.specs.Rules.{nameAt}
@@ -91,6 +91,52 @@ within i x j y lower upper d = inBounds noLimit (timeOf d i x) (timeOf d j y) lo
 -- what stands at a place of table 5 holds, as a test of the choice
 unfoldable pub askAt : ℕ → List ℕ → ℕ → Choice → Bool
 askAt e b at d = askHolds e b d at
+
+-- ---- sets of relations
+
+-- for s..e and s'..e' at the marks, which relations need a later right stretch: an end of it that has to lie behind one of the left
+-- stretch, or at it, and lies before. The last is for stretches in no relation
+abbrev pub needsRight : ℕ → ℕ → ℕ → ℕ → List Bool
+needsRight s e s' e' =
+    leb s' e
+    ∷ ltb s' e
+    ∷ (leb s' s || leb e' e)
+    ∷ (leb s' s || ltb e' e)
+    ∷ leb s' s
+    ∷ (ltb s' s || leb e' e)
+    ∷ (ltb s' s || ltb e' e)
+    ∷ ltb s' s
+    ∷ leb e' e
+    ∷ ltb e' e
+    ∷ leb e' s
+    ∷ ltb e' s
+    ∷ false
+    ∷ false
+    ∷ []
+
+-- and which need a later left one
+abbrev pub needsLeft : ℕ → ℕ → ℕ → ℕ → List Bool
+needsLeft s e s' e' =
+    false
+    ∷ ltb e s'
+    ∷ leb e s'
+    ∷ ltb e e'
+    ∷ leb e e'
+    ∷ ltb s s'
+    ∷ (ltb s s' || ltb e e')
+    ∷ (ltb s s' || leb e e')
+    ∷ leb s s'
+    ∷ (leb s s' || ltb e e')
+    ∷ (leb s s' || leb e e')
+    ∷ ltb s e'
+    ∷ leb s e'
+    ∷ false
+    ∷ []
+
+-- each relation of a set, from number i on, needs it
+unfoldable pub allNeed : ℕ → ℕ → List Bool → Bool
+allNeed set i [] = true
+allNeed set i (n ∷ ns) = (not (inSet set i) || n) && allNeed set (suc i) ns
 
 -- ---- the marks
 

@@ -1,12 +1,13 @@
 // Marks: for each name of an alternative a token such that none in front of it serves in any choice; the marks are raised until no ask tells
 // of one that it is too early.
 ghost use mathlib.Core.Path.{_≡_};
-ghost use mathlib.Core.Bool.{true, false};
+ghost use mathlib.Core.Bool.{true, false, _||_, not};
 ghost use Prim.Native.Nat.{_+_, _*_, _<_, _≤_, _^_};
 ghost use lib.ListN.{length};
+ghost use Rattle.words.specs.Words.{inSet};
 ghost use Rattle.choice.specs.Met.{triggered, tokenTime};
 ghost use Rattle.choice.specs.Asked.{askHolds, asksHold};
-ghost use Rattle.marks.specs.Marked.{Sought, Advanced, nextOf, Told, whose, within, askAt, Marked, Started, Raised};
+ghost use Rattle.marks.specs.Marked.{Sought, Advanced, nextOf, Told, whose, within, askAt, needsRight, needsLeft, allNeed, Marked, Started, Raised};
 use choice::Alternative;
 use choice::Tokens;
 use choice::put;
@@ -161,13 +162,98 @@ fn bounds_early(
     Early::Name(whose(j, y, n))
 }
 
+// Whether relation k is not in a set, or f.
+fn needs(set: u32, k: u32, f: bool) -> bool
+    ensures { λ r. ⌜ r ≡ (not (inSet set k) || f) ⌝ }
+{
+    !words::in_set(set, k) | f
+}
+
+// Whether each relation of a set needs a later right stretch than s2..e2 beside s..e.
+fn right_needed(set: u32, s: u64, e: u64, s2: u64, e2: u64) -> bool
+    ensures { λ r. ⌜ r ≡ allNeed set 0 (needsRight s e s2 e2) ⌝ }
+{
+    let r0 = needs(set, 0, s2 <= e);
+    let r1 = needs(set, 1, s2 < e);
+    let r2 = needs(set, 2, (s2 <= s) | (e2 <= e));
+    let r3 = needs(set, 3, (s2 <= s) | (e2 < e));
+    let r4 = needs(set, 4, s2 <= s);
+    let r5 = needs(set, 5, (s2 < s) | (e2 <= e));
+    let r6 = needs(set, 6, (s2 < s) | (e2 < e));
+    let r7 = needs(set, 7, s2 < s);
+    let r8 = needs(set, 8, e2 <= e);
+    let r9 = needs(set, 9, e2 < e);
+    let r10 = needs(set, 10, e2 <= s);
+    let r11 = needs(set, 11, e2 < s);
+    let r12 = needs(set, 12, false);
+    let r13 = needs(set, 13, false);
+    r0
+        & (r1
+            & (r2
+                & (r3
+                    & (r4
+                        & (r5
+                            & (r6 & (r7 & (r8 & (r9 & (r10 & (r11 & (r12 & (r13 & true)))))))))))))
+}
+
+// Whether each needs a later left one.
+fn left_needed(set: u32, s: u64, e: u64, s2: u64, e2: u64) -> bool
+    ensures { λ r. ⌜ r ≡ allNeed set 0 (needsLeft s e s2 e2) ⌝ }
+{
+    let r0 = needs(set, 0, false);
+    let r1 = needs(set, 1, e < s2);
+    let r2 = needs(set, 2, e <= s2);
+    let r3 = needs(set, 3, e < e2);
+    let r4 = needs(set, 4, e <= e2);
+    let r5 = needs(set, 5, s < s2);
+    let r6 = needs(set, 6, (s < s2) | (e < e2));
+    let r7 = needs(set, 7, (s < s2) | (e <= e2));
+    let r8 = needs(set, 8, s <= s2);
+    let r9 = needs(set, 9, (s <= s2) | (e < e2));
+    let r10 = needs(set, 10, (s <= s2) | (e <= e2));
+    let r11 = needs(set, 11, s < e2);
+    let r12 = needs(set, 12, s <= e2);
+    let r13 = needs(set, 13, false);
+    r0
+        & (r1
+            & (r2
+                & (r3
+                    & (r4
+                        & (r5
+                            & (r6 & (r7 & (r8 & (r9 & (r10 & (r11 & (r12 & (r13 & true)))))))))))))
+}
+
+// What the constraint at a place tells: all relations of its set together.
+fn set_early(b: &[u32], c: &[u64; 10], n: usize, place: usize) -> Early
+    requires { ⌜ place < 2 ^ 60 ⌝ }
+    ensures { λ r. ⌜ Told (now (c .entry)) n r (askAt 2 (now (b .entry)) place) ⌝ }
+{
+    if choice::constraint_holds(b, c, place) {
+        return Early::Nobody;
+    }
+    let l = word_at(b, place);
+    let r = word_at(b, place + 1);
+    let set = word_at(b, place + 2);
+    let s = token_time(c, 0, l);
+    let e = token_time(c, 1, l);
+    let s2 = token_time(c, 0, r);
+    let e2 = token_time(c, 1, r);
+    if right_needed(set, s, e, s2, e2) {
+        return Early::Name(whose(0, r, n));
+    }
+    if left_needed(set, s, e, s2, e2) {
+        return Early::Name(whose(0, l, n));
+    }
+    Early::Nobody
+}
+
 // What the ask at a place tells.
 fn ask_early(e: usize, b: &[u32], c: &[u64; 10], n: usize, place: usize) -> Early
     requires { ⌜ place < 2 ^ 60 ⌝ }
     ensures { λ r. ⌜ Told (now (c .entry)) n r (askAt e (now (b .entry)) place) ⌝ }
 {
     if e == 2 {
-        return Early::Nobody;
+        return set_early(b, c, n, place);
     }
     let i = word_at(b, place);
     let x = word_at(b, place + 1);

@@ -150,17 +150,17 @@ module _ (b p : List ℕ) (a : Alternative) where
         long = k .long;
         each =
             λ j l. let m = k .each j l in
-                record {
-                  some = m .some;
-                  head = m .head;
-                  source =
-                      record {
-                        from = λ u f. m .source .from u (later-trans (g .later) f);
-                        line = m .source .line;
-                        room = m .source .room;
-                        small = m .source .small;
-                      };
-                };
+            record {
+              some = m .some;
+              head = m .head;
+              source =
+                  record {
+                    from = λ u f. m .source .from u (later-trans (g .later) f);
+                    line = m .source .line;
+                    room = m .source .room;
+                    small = m .source .small;
+                  };
+            };
       })
 
   -- other words of the list are changed

@@ -179,13 +179,13 @@ module _ (b p : List ℕ) (a : Alternative) where
           whole
           ∙ both-ways _ _
           (λ h. let o = any-some _ (lineOf p (nameAt b (a .name + j * 2) .variable)) h in
-              let x = o .0 in
-              let e = and-both (eqb (x .value) (nameAt b (a .name + j * 2) .value)) _ (o .2) in
-              let q = placed-of (lineOf p) (asksHold b a) (run (nameAt b) 2 m (a .name + (j + 1) * 2)) (j + 1 + 1) (put c (j + 1) (x .start .tick) (x .end .tick)) (e .1) in
-              let there = s .from t (later-same t) _ (full x (q .0) (record { variable = o .1; value = eqb-true _ _ (e .0) }) (q .1)) in
-              some-any _ (tokensFrom p (w .count) (w .place) (w .start)) x (rw (here x (q .0)) at there) (serving-as x (nameAt b (a .name + j * 2) .value) (w .value) (sym (l .value)) (o .2)))
+          let x = o .0 in
+          let e = and-both (eqb (x .value) (nameAt b (a .name + j * 2) .value)) _ (o .2) in
+          let q = placed-of (lineOf p) (asksHold b a) (run (nameAt b) 2 m (a .name + (j + 1) * 2)) (j + 1 + 1) (put c (j + 1) (x .start .tick) (x .end .tick)) (e .1) in
+          let there = s .from t (later-same t) _ (full x (q .0) (record { variable = o .1; value = eqb-true _ _ (e .0) }) (q .1)) in
+          some-any _ (tokensFrom p (w .count) (w .place) (w .start)) x (rw (here x (q .0)) at there) (serving-as x (nameAt b (a .name + j * 2) .value) (w .value) (sym (l .value)) (o .2)))
           (λ h. let o = any-some _ (tokensFrom p (w .count) (w .place) (w .start)) h in
-              some-any _ (lineOf p (nameAt b (a .name + j * 2) .variable)) (o .0) (l .line (o .0) (o .1)) (serving-as (o .0) (w .value) (nameAt b (a .name + j * 2) .value) (l .value) (o .2)))
+          some-any _ (lineOf p (nameAt b (a .name + j * 2) .variable)) (o .0) (l .line (o .0) (o .1)) (serving-as (o .0) (w .value) (nameAt b (a .name + j * 2) .value) (l .value) (o .2)))
         where
           serving-as : (x : Token) (v v' : ℕ) → v ≡ v' → serving b p a m j c v x ≡ true → serving b p a m j c v' x ≡ true
           serving-as x v v' e q = rw e at q

@@ -253,11 +253,7 @@ fn settle(b: &[u32], p: &[u32], t: Token, a: Alternative, kept: &mut [u64], slot
         };
     }
     let open = carry_on(b, p, t, a, &mut times, &mut rests, kept, slot);
-    Lead {
-        open,
-        times,
-        rests,
-    }
+    Lead { open, times, rests }
 }
 
 // Whether one of the n alternatives from number `first` on is met for the trigger token t: the first alternative and assignment found

@@ -1,35 +1,22 @@
--- The translator's answer, and what the lent room holds afterwards. Assumes nothing.
-use mathlib.Core.Bool.{Bool, cond}
-use mathlib.Core.List.{List, _++_, map}
-use Prim.Native.Nat.{ℕ, _*_}
+-- The translator's answer, and what the lent room holds afterwards; `rulesFor`, `tooMany` and `translated` are passed on, so that all that
+-- the answer speaks of is named here. Assumes nothing.
+use mathlib.Core.Bool.{cond}
+use mathlib.Core.List.{List, _++_}
+use Prim.Native.Nat.{ℕ}
 use lib.Dec.{ltb, eqb}
-use lib.ListN.{length, take, drop}
+use lib.ListN.{length, drop}
 use Rattle.answers.specs.declared.Numbers.{Numbers}
 use Rattle.answers.specs.Numbers.{numbers, noFault, orElse}
 use Rattle.words.specs.Least.{first}
-use Rattle.layout.specs.Layout.{count, offset, width, most}
-use Rattle.book.specs.Rules.{Atom, Rule, rulesOf}
-use Rattle.book.specs.Encode.{atoms, constraints, altsOf, namesOf, asksOf, bookOf}
+use Rattle.layout.specs.Layout.{most}
+use Rattle.book.specs.Rules.{Atom, Rule}
+use Rattle.book.specs.Encode.{altsOf, namesOf, asksOf}
 use Rattle.book.specs.Fault.{bookFault}
-use Rattle.translator.specs.Expand.{translate}
+unfoldable pub use Rattle.listing.specs.Expand.{rulesFor, tooMany}
+pub use Rattle.writing.specs.Book.{tableWords}
+unfoldable pub use Rattle.writing.specs.Book.{translated}
 
--- the rules of the book that a sheet becomes
-unfoldable pub rulesFor : List ℕ → List (Rule Atom)
-rulesFor s = map translate (rulesOf constraints s)
-
--- the words of table t as they stand
-abbrev pub tableWords : ℕ → List ℕ → ℕ → List ℕ
-tableWords e s t = take (count s t * width e t) (drop (offset s t) s)
-
--- the book that a sheet becomes: "Names are copied into each, variables and values once"
-unfoldable pub translated : List ℕ → List ℕ
-translated s = bookOf atoms 1 (count s 0) (tableWords 2 s 0) (count s 1) (tableWords 2 s 1) (rulesFor s)
-
--- 13 "first rule that would have over 64 alternatives"
-unfoldable pub tooMany : Rule Atom → Bool
-tooMany r = ltb 64 (length (r .alternatives))
-
--- the first such rule, if there is one
+-- 13, with the first rule that has too many, if there is one
 unfoldable pub ruleFault : List (Rule Atom) → Numbers
 ruleFault rules = cond (ltb (first tooMany rules) (length rules)) (numbers 13 (first tooMany rules) 0) noFault
 

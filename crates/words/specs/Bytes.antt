@@ -5,7 +5,7 @@ use native.Mathlib.Omega.{arith}
 use mathlib.Core.Path.{_≡_, refl}
 use mathlib.Core.Bool.{_&&_, cond}
 use mathlib.Core.List.{List, [], _∷_, _++_}
-use lib.ListN.{length, getD, take}
+use lib.ListN.{length, getD, take, drop}
 use lib.Dec.{leb, eqb}
 
 -- four bytes, least first, as a number
@@ -37,11 +37,13 @@ unfoldable pub bytesOf : List ℕ → List ℕ
 bytesOf [] = []
 bytesOf (w ∷ ws) = bytesOfWord w ++ bytesOf ws
 
--- what `load` answers: n words are there, and they are the file's. `counted` follows from `within`; both are what `&out[..n]` asks
-pub record Loaded (s : List ℕ) (n : ℕ) (out : List ℕ) : Type 0 where
+-- what `load` answers: n words are there, they are the file's, and behind them `out` is as it was, all of it where the file has no words.
+-- `counted` follows from `within`; both are what `&out[..n]` asks
+pub record Loaded (s : List ℕ) (n : ℕ) (before out : List ℕ) : Type 0 where
   pub within : n ≤ length out
   pub counted : n ≡ length (take n out)
   pub are : take n out ≡ fileWords s
+  pub whole : out ≡ fileWords s ++ drop n before
 
 -- ---- laws of `bytesOf`
 

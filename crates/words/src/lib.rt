@@ -77,9 +77,9 @@ fn decode(s: &[u8], out: &mut [u32]) -> usize
 }
 
 // The words of a file's bytes, at the start of out, and how many they are: none where the bytes are over 65,536 or no
-// multiple of 4.
+// multiple of 4. Behind them out stays as it was.
 pub fn load(s: &[u8], out: &mut [u32; 16384]) -> usize
-    ensures { λ r. ⌜ Loaded (now (s .entry)) r (now (out .exit)) ⌝ }
+    ensures { λ r. ⌜ Loaded (now (s .entry)) r (now (out .entry)) (now (out .exit)) ⌝ }
 {
     if s.len() > 65536 {
         return 0;

@@ -1,11 +1,12 @@
--- `marks::ask_early` meets its contract: the atom's six words. Assumes nothing.
+-- `marks::ask_early` meets its contract: a constraint, or an atom's six words. Assumes nothing.
 use borrow.Author.Needs.{needs}
-use Rattle.marks.proofs.Sides.{told-nobody, told-atom}
+use Rattle.marks.proofs.Sides.{told-atom}
+use Rattle.marks.proofs.Relations.{told-edition}
 use Rattle.marks.proofs.ask_early.Statement.{statement}
 use Rattle.marks.proofs.ask_early.Tie as tie
 
 returns : tie.Need-returns
-returns c = told-nobody _ _ _
+returns c = told-edition _ _ _ _ _ _ (c .before .if1 .taken) (c .set-early .ensures)
 
 returns-2 : tie.Need-returns-2
 returns-2 c =
@@ -15,6 +16,7 @@ pub ask-early-spec : {M : Type 1} → statement M
 ask-early-spec =
     tie.close
     (tie.spec
+    (λ c κs. search needs)
     returns
     (λ c κs. search needs)
     (λ c. search needs)

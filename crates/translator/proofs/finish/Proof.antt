@@ -3,8 +3,8 @@
 use mathlib.Core.Path.{refl, sym, _∙_}
 use native.Mathlib.Omega.{arith}
 use borrow.Author.Needs.{needs}
-use Rattle.translator.specs.Whole.{sizes-by}
-use Rattle.translator.specs.Outcome.{long-none, too-long, too-short, written}
+use Rattle.writing.proofs.Whole.{sizes-by}
+use Rattle.translator.proofs.Outcome.{long-none, too-long, too-short, written}
 use Rattle.translator.proofs.finish.Statement.{statement}
 use Rattle.translator.proofs.finish.Tie as tie
 

@@ -4,7 +4,7 @@ use mathlib.Core.Path.{sym}
 use native.Mathlib.Omega.{arith}
 use borrow.Author.Needs.{needs}
 use lib.Seq.{length-take-le}
-use Rattle.translator.specs.Outcome.{bad-by, good-by, fitting, listed, too-many}
+use Rattle.translator.proofs.Outcome.{bad-by, good-by, fitting, listed, too-many}
 use Rattle.translator.proofs.translate.Statement.{statement}
 use Rattle.translator.proofs.translate.Tie as tie
 

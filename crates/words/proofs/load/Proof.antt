@@ -11,10 +11,15 @@ use Rattle.words.proofs.load.Statement.{statement}
 use Rattle.words.proofs.load.Tie as tie
 
 returns : tie.Need-returns
-returns c = record { within = search needs; counted = refl; are = simp (lt-leb _ _ (c .if1 .taken)) }
+returns c =
+    let none = lt-leb _ _ (c .if1 .taken) in
+    record { within = search needs; counted = refl; are = simp none; whole = simp none }
 
 returns-2 : tie.Need-returns-2
-returns-2 c = record { within = search needs; counted = refl; are = simp (le-leb _ _ (c .before .if1 .left), ne-eqb _ _ (c .if2 .taken)) }
+returns-2 c =
+    let short = le-leb _ _ (c .before .if1 .left) in
+    let odd = ne-eqb _ _ (c .if2 .taken) in
+    record { within = search needs; counted = refl; are = simp (short, odd); whole = simp (short, odd) }
 
 returns-3 : tie.Need-returns-3
 returns-3 c =
@@ -22,10 +27,13 @@ returns-3 c =
     let front : take (c .decode .result) (c .decode .last .1 .0) ≡ wordsOf s =
     simp (c .decode .ensures .1) (take-at (wordsOf s) _ _ (length-wordsOf s ∙ sym (c .decode .ensures .0))) in
     let all = length-wordsOf s in
+    let short = le-leb _ _ (c .before .before .before .if1 .left) in
+    let even = eq-eqb _ _ (c .before .before .if2 .left) in
     record {
       within = omega (arith, simp length-append at (ap length (c .decode .ensures .1)));
       counted = rw front (omega arith);
-      are = simp (le-leb _ _ (c .before .before .before .if1 .left), eq-eqb _ _ (c .before .before .if2 .left)) front;
+      are = simp (short, even) front;
+      whole = simp (short, even) (c .decode .ensures .1 ∙ rw (c .decode .ensures .0));
     }
 
 pub load-spec : {M : Type 1} → statement M

@@ -1,0 +1,2 @@
+-- What the proofs of `translator` use.
+mod Outcome
