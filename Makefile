@@ -1,11 +1,10 @@
-# make demo: prove and build the judge, and judge the shipped morning. make test: the gate. The others are for a day's work.
+# make demo: prove and build the programs, and judge the shipped morning. make test: the gate. The others are for a day's work.
 PREFIX ?= /usr/local
 to = $(DESTDIR)$(abspath $(PREFIX))
 
 .PHONY: demo test check lib programs install bench stack believed
 
-demo:
-	rt check judge
+demo: programs
 	cd examples/misspelt && ../../target/bin/judge
 
 test:

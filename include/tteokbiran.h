@@ -18,7 +18,7 @@
 #include <stdint.h>
 
 /* The bytes of stack that suffice for any call. This is measured (make stack), on the deepest searches that are known, and not proved. */
-#define TTEOKBIRAN_STACK 524288
+#define TTEOKBIRAN_STACK 1048576
 
 #ifdef __cplusplus
 extern "C" {

@@ -4,6 +4,7 @@ use crate::both::Both;
 use second::generate::draft::plan_words;
 use second::generate::random::{pair, Size, LARGE, MEDIUM, SMALL};
 use second::generate::rng::Rng;
+use second::generate::slow::{Slow, BOTH, SHEETS};
 use second::generate::{damage, extreme};
 use second::layout::{Kind, LAST, N};
 use second::specimens::{self, Call, E, E_SHEET, P1, P2};
@@ -80,6 +81,22 @@ fn judge(both: &mut Both, kind: Kind, words: &[u8], plan: &[u8]) {
         Kind::Book => both.judge(words, plan),
         Kind::Sheet => both.judge_sheet(words, plan),
     };
+}
+
+/// What keeps a judge busy, on short lines.
+pub fn busy(both: &mut Both) -> u64 {
+    let mut number = 0;
+    let mut each = |kind: Kind, one: &Slow| {
+        for tokens in [1, 2, 3, 6] {
+            both.case = format!("{}, lines of {tokens}", one.name);
+            let (words, plan) = (one.make)(kind, tokens);
+            judge(both, kind, &to_bytes(&words), &to_bytes(&plan));
+            number += 1;
+        }
+    };
+    BOTH.iter().for_each(|one| each(Kind::Book, one));
+    BOTH.iter().chain(&SHEETS).for_each(|one| each(Kind::Sheet, one));
+    number
 }
 
 /// All that can be asked of a book or sheet and a plan.

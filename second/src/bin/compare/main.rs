@@ -39,6 +39,7 @@ fn main() {
     if first.is_none() {
         specimens = cases::specimens(&mut both);
         made += cases::every_place(&mut both, 400);
+        made += cases::busy(&mut both);
     }
     let first_case = first.unwrap_or(0);
     for case in first_case..first_case + cases {
