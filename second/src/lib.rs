@@ -25,7 +25,7 @@ use layout::N;
 use plan::{tokens, Tokens};
 use words::from_bytes;
 
-/// Book and plan decoded: faults 1 to 11.
+/// Book and plan decoded: faults 1 to 11, then 18.
 fn both<T: Test>(book: &[u32], plan: &[u32]) -> Result<(Book<T>, Tokens), Answer> {
     let book = decode(book)?;
     let tokens = tokens(&book, plan)?;

@@ -47,22 +47,27 @@ fn counts(words: &[u32], variables: usize) -> Result<Vec<u32>, Answer> {
     Ok(counts)
 }
 
-/// Faults 5 to 11.
+/// Faults 5 to 11, then 18.
 pub fn tokens<T>(book: &Book<T>, words: &[u32]) -> Result<Tokens, Answer> {
     let lines = book.variables.len();
     let counts = counts(words, lines)?;
     let mut left = &words[3 + 2 * lines..];
     let mut split = Vec::with_capacity(lines);
+    let mut ends = Vec::with_capacity(lines);
     // How many tokens each value has, one place further on.
     let mut first = vec![0; book.values.len() + 1];
     for (line, count) in counts.into_iter().enumerate() {
         let (own, after) = left.split_at(2 * count as usize);
         let base = book.variables[line].start;
         let values = &book.values[book.variables[line].clone()];
-        check_line(values, own, &mut first[base + 1..])
+        let end = check_line(values, own, &mut first[base + 1..])
             .map_err(|(number, token)| [number, line as u32, token as u32])?;
+        ends.push(end);
         split.push((base, own));
         left = after;
+    }
+    if let Some(line) = ends.iter().position(|end| *end != ends[0]) {
+        return Err([18, line as u32, 0]);
     }
     for value in 1..first.len() {
         first[value] += first[value - 1];
@@ -70,8 +75,9 @@ pub fn tokens<T>(book: &Book<T>, words: &[u32]) -> Result<Tokens, Answer> {
     Ok(Tokens { spans: gather(&split, &first), first })
 }
 
-/// Faults 8 to 11 of one line, each with its token; counts the tokens.
-fn check_line(values: &[Value], words: &[u32], seen: &mut [usize]) -> Result<(), (u32, usize)> {
+/// Faults 8 to 11 of one line, each with its token; counts the tokens. Gives
+/// the line's end, which is 0 where there is no token.
+fn check_line(values: &[Value], words: &[u32], seen: &mut [usize]) -> Result<u64, (u32, usize)> {
     let mut time = 0u64;
     let mut may_follow = u32::MAX;
     for (token, record) in words.chunks_exact(2).enumerate() {
@@ -91,7 +97,7 @@ fn check_line(values: &[Value], words: &[u32], seen: &mut [usize]) -> Result<(),
         may_follow = value.successors;
         seen[number as usize] += 1;
     }
-    Ok(())
+    Ok(time)
 }
 
 /// The tokens of good lines, each line with the record of its first value.

@@ -61,13 +61,14 @@ fn bounds() -> Vec<u32> {
     one_rule(Kind::Book, NO_TRIGGER, vec![alternative(&[[0, 0]], &[&[0, 1, 1, 1, 10, 20]])])
 }
 
+/// One token of value 0 on each line.
 fn one_token(duration: u32) -> Vec<u32> {
-    plan_words(&vec![vec![[0, duration]], vec![]])
+    plan_words(&vec![vec![[0, duration]]; 2])
 }
 
-/// 0..10 on the decoder's line, 10..20 on the RIP's.
+/// Value 0 is 0..10 on the decoder's line, value 1 is 10..20 on the RIP's.
 fn side_by_side() -> Vec<u32> {
-    plan_words(&vec![vec![[0, 10]], vec![[0, 10], [1, 10]]])
+    plan_words(&vec![vec![[0, 10], [1, 10]]; 2])
 }
 
 fn relation(names: &[[u32; 2]], set: u32) -> Vec<u32> {
@@ -82,6 +83,7 @@ fn two_sets(first: u32, second: u32) -> Vec<u32> {
 pub fn all() -> Vec<Specimen> {
     let mut list = from_the_law();
     list.extend(traps());
+    list.extend(ends());
     list
 }
 
@@ -103,12 +105,12 @@ fn from_the_law() -> Vec<Specimen> {
         ("empty plan", e(EMPTY_PLAN.to_vec()), [0, 0, 0]),
         ("job of 20 at 4", p2(14, 4), [9, 1, 1]),
         ("job of 20 at 61", p2(14, 61), [9, 1, 1]),
-        ("job of 20 at 5", p2(14, 5), [0, 2, 0]),
-        // Passes 9, and then runs over the end of UTF-8.
-        ("job of 20 at 60", p2(14, 60), [12, 0, 1]),
+        // These pass 9 and 11; their lines don't end together.
+        ("job of 20 at 5", p2(14, 5), [18, 1, 0]),
+        ("job of 20 at 60", p2(14, 60), [18, 1, 0]),
         ("second decoder value 0", p2(9, 0), [10, 0, 1]),
         ("second decoder value 2", p2(9, 2), [8, 0, 1]),
-        ("second decoder to the last tick", p2(10, 999_999_990), [0, 2, 0]),
+        ("second decoder to the last tick", p2(10, 999_999_990), [18, 1, 0]),
         ("second decoder past the last tick", p2(10, 999_999_991), [11, 0, 1]),
         ("no trigger, no names", free(&[]), [0, 1, 0]),
         ("no trigger, one name", free(&[[0, 0]]), [12, 0, 0]),
@@ -136,7 +138,7 @@ fn traps() -> Vec<Specimen> {
         Call::Judge(one_rule(Kind::Book, trigger, alternatives), plan)
     };
     let never: &[u32] = &[2, 1, 2, 0, 0, N];
-    let lines = vec![vec![[0, 10], [1, 10], [0, 10]], vec![]];
+    let lines = vec![vec![[0, 10], [1, 10], [0, 10]], vec![[0, 30]]];
     // Each atom alone has a token that suits it, no token suits both.
     let apart: [&[u32]; 2] = [&[0, 1, 2, 0, 0, 0], &[2, 20, 0, 1, 0, 0]];
     let made = |(name, call, expected)| Specimen { name, call, expected };
@@ -169,6 +171,24 @@ fn traps() -> Vec<Specimen> {
             ),
             [12, 0, 1],
         ),
+    ]
+    .map(made)
+    .into()
+}
+
+/// Lines that end together, or don't.
+fn ends() -> Vec<Specimen> {
+    let e = |lines| Call::Judge(E.to_vec(), plan_words(&lines));
+    let only_line_0 = plan_words(&vec![vec![[0, 5]], vec![]]);
+    let made = |(name, call, expected)| Specimen { name, call, expected };
+    [
+        ("line 0 is empty", e(vec![vec![], vec![[0, 5]]]), [18, 1, 0]),
+        ("line 1 is empty", e(vec![vec![[0, 5]], vec![]]), [18, 1, 0]),
+        ("a later line's 8 first", e(vec![vec![[0, 5]], vec![[0, 10], [2, 1]]]), [8, 1, 1]),
+        ("line 1 ends later", e(vec![vec![[0, 5]], vec![[0, 6]]]), [18, 1, 0]),
+        ("line 1 ends earlier", e(vec![vec![[0, 5]], vec![[0, 4]]]), [18, 1, 0]),
+        ("both end at 5", e(vec![vec![[0, 5]]; 2]), [0, 0, 0]),
+        ("18 for a sheet", Call::JudgeSheet(E_SHEET.to_vec(), only_line_0), [18, 1, 0]),
     ]
     .map(made)
     .into()

@@ -1,7 +1,7 @@
-use crate::generate::draft::{plan_words, AlternativeDraft, Draft, Lines, NO_TRIGGER};
+use crate::generate::draft::{end, plan_words, AlternativeDraft, Draft, Lines, NO_TRIGGER};
 use crate::generate::random::{pair, SMALL};
 use crate::generate::rng::Rng;
-use crate::generate::{extreme, load};
+use crate::generate::{extreme, load, slow};
 use crate::layout::{Kind, LAST, N};
 use crate::specimens::{all, with, Call, E, EMPTY_PLAN, E_SHEET, P1, P2};
 use crate::words::to_bytes;
@@ -133,6 +133,23 @@ fn plan_faults_before_the_tokens() {
 }
 
 #[test]
+fn the_first_line_that_ends_elsewhere_than_line_0() {
+    let draft = Draft::new(Kind::Book, vec![vec![[1, N, 1]]; 4]);
+    let answer = |ends: [u32; 4]| {
+        let lines = ends.map(|end| if end == 0 { vec![] } else { vec![[0, end]] });
+        judge(&draft.words(), &plan_words(&lines.into()))
+    };
+    assert_eq!(answer([0, 0, 0, 0]), [0, 0, 0]);
+    assert_eq!(answer([7, 7, 7, 7]), [0, 0, 0]);
+    assert_eq!(answer([7, 7, 6, 8]), [18, 2, 0]);
+    assert_eq!(answer([7, 7, 7, 0]), [18, 3, 0]);
+    assert_eq!(answer([0, 0, 7, 7]), [18, 2, 0]);
+    assert_eq!(answer([7, 8, 8, 8]), [18, 1, 0]);
+    // The last tick of every line is tested before.
+    assert_eq!(answer([7, 8, 8, LAST + 1]), [11, 3, 0]);
+}
+
+#[test]
 fn the_sheet_has_limits_of_its_own() {
     assert_eq!(judge_sheet(&E, &P2), [2, 0, 0]);
     assert_eq!(judge(&E_SHEET, &P2), [2, 0, 0]);
@@ -168,6 +185,29 @@ fn largest_inputs_pass() {
 }
 
 #[test]
+fn what_is_measured_reaches_the_rules() {
+    let by = |kind, (book, plan): (Vec<u32>, Vec<u32>)| match kind {
+        Kind::Book => judge(&book, &plan),
+        Kind::Sheet => judge_sheet(&book, &plan),
+    };
+    assert_eq!(by(Kind::Book, load::one_name()), [0, 16_384, 0]);
+    assert_eq!(by(Kind::Book, load::two_names()), [0, 256, 0]);
+    for (names, chained) in [(3, false), (4, false), (3, true), (4, true)] {
+        assert_eq!(by(Kind::Book, load::names(names, 8, chained)), [12, 0, 0]);
+    }
+    for kind in [Kind::Book, Kind::Sheet] {
+        for one in slow::BOTH {
+            let (book, plan) = (one.make)(kind, 8);
+            let rules = book[6];
+            assert_eq!(by(kind, (book, plan)), [0, 8 * rules, 0], "{}", one.name);
+        }
+    }
+    for one in slow::SHEETS {
+        assert_eq!(by(Kind::Sheet, (one.make)(Kind::Sheet, 8)), [12, 0, 0], "{}", one.name);
+    }
+}
+
+#[test]
 fn bytes_out_of_bounds_are_no_words() {
     let (book, plan) = (to_bytes(&E), to_bytes(&P2));
     assert_eq!(bytes::judge(&book, &plan), [0, 2, 0]);
@@ -181,6 +221,7 @@ fn bytes_out_of_bounds_are_no_words() {
 fn a_reader_hands_out_the_line_and_then_no_more() {
     assert_eq!(open_reader(&E, &P2, 2), ([17, 0, 0], N, 0));
     assert_eq!(open_reader(&E, &P2[..6], 2), ([5, 0, 0], N, 0));
+    assert_eq!(open_reader(&E, &with(&P2, 14, 5), 2), ([18, 1, 0], N, 0), "18 before 17");
     assert_eq!(open_reader(&E, &P2, 1), ([0, 0, 0], 0, 0));
     let mut at = Position { line: 1, token: 0, start: 0 };
     for (value, start, end) in [(0, 0, 10), (1, 10, 30), (0, 30, 40), (1, 40, 50)] {
@@ -210,6 +251,10 @@ fn a_step_takes_any_words_and_any_position() {
 
 /// All tests at the end of each choice, and every choice tried.
 fn slow_answer(draft: &Draft, lines: &Lines) -> [u32; 3] {
+    let ends: Vec<u32> = lines.iter().map(|line| end(line)).collect();
+    if let Some(line) = (1..ends.len()).find(|&line| ends[line] != ends[0]) {
+        return [18, line as u32, 0];
+    }
     let mut examined = 0;
     let tokens = |name: [u32; 2]| -> Vec<(i64, i64, u32)> {
         let mut start = 0;
@@ -261,15 +306,17 @@ fn slow_test(test: &[u32], chosen: &[(i64, i64, u32)]) -> bool {
 
 #[test]
 fn the_search_agrees_with_trying_everything() {
-    let mut met = 0;
+    let [mut met, mut apart] = [0; 2];
     for case in 0..3_000 {
         let mut rng = Rng::new(5, case);
         let (draft, lines) = pair(&mut rng, Kind::Book, SMALL);
         let answer = judge(&draft.words(), &plan_words(&lines));
         assert_eq!(answer, slow_answer(&draft, &lines), "case {case}");
         met += u32::from(answer[0] == 0 && answer[1] > 0);
+        apart += u32::from(answer[0] == 18);
     }
     assert!(met > 300, "{met} were met");
+    assert!((100..500).contains(&apart), "{apart} had lines that end apart");
 }
 
 #[test]

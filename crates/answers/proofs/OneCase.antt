@@ -5,7 +5,7 @@ use mathlib.Core.List.{[], _∷_}
 use lib.ListN.{getD}
 use Rattle.answers.specs.declared.Numbers.{Numbers}
 use Rattle.answers.specs.declared.Answer.{Answer}
-use Rattle.answers.specs.declared.Answer.the-variants.{Done, BookLength, BookHeader, BookEnd, BookRecord, PlanLength, PlanHeader, PlanEnd, ValueUnknown, DurationOutside, NotSuccessor, PastLastTick, RuleNotMet, TooManyAlternatives, TooLong, RoomTooShort, NoSuchTimeline}
+use Rattle.answers.specs.declared.Answer.the-variants.{Done, BookLength, BookHeader, BookEnd, BookRecord, PlanLength, PlanHeader, PlanEnd, ValueUnknown, DurationOutside, NotSuccessor, PastLastTick, RuleNotMet, TooManyAlternatives, TooLong, RoomTooShort, NoSuchTimeline, EndsApart}
 use Rattle.answers.specs.Numbers.{numbersOf}
 
 -- the answer with these numbers
@@ -31,6 +31,7 @@ answerOf x =
     -- 16 isn't used
     ∷ BookLength
     ∷ NoSuchTimeline
+    ∷ EndsApart (x .a)
     ∷ [])
     (x .number) BookLength
 
@@ -53,6 +54,7 @@ answer-back (TooManyAlternatives rule) = refl
 answer-back (TooLong table) = refl
 answer-back (RoomTooShort words) = refl
 answer-back NoSuchTimeline = refl
+answer-back (EndsApart timeline) = refl
 
 -- THE LAW: two answers with the same numbers are the same answer
 pub one-case : (r s : Answer) → numbersOf r ≡ numbersOf s → r ≡ s

@@ -22,6 +22,7 @@ pub enum Answer {
     TooLong { table: u32 },
     RoomTooShort { words: u32 },
     NoSuchTimeline,
+    EndsApart { timeline: u32 },
 }
 
 // The three numbers that an answer is shown as.
@@ -60,5 +61,6 @@ pub fn numbers_of(r: Answer) -> Numbers
         Answer::TooLong { table } => row(14, table, 0),
         Answer::RoomTooShort { words } => row(15, words, 0),
         Answer::NoSuchTimeline => row(17, 0, 0),
+        Answer::EndsApart { timeline } => row(18, timeline, 0),
     }
 }

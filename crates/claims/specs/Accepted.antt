@@ -147,11 +147,11 @@ plan-none {b = b} s p =
     let q = plan-iff s p in (
       λ h.
           let g = plan-good b p (no-number b p h) in
-          (record { sized = (g .long, g .short); head = g .head; whole = g .whole }, q .1 (g .tokens)),
+          (record { sized = (g .long, g .short); head = g .head; whole = g .whole }, q .1 (g .tokens, g .together)),
       λ h.
           let t = h .0 in
           ap (λ (r : Numbers). r .number)
-          (plan-good-back b p (record { long = t .sized .0; short = t .sized .1; head = t .head; whole = t .whole; tokens = q .0 (h .1) })),
+          (plan-good-back b p (record { long = t .sized .0; short = t .sized .1; head = t .head; whole = t .whole; tokens = q .0 (h .1) .0; together = q .0 (h .1) .1 })),
     )
 
 module _ {C : Type 0} (holds : Choice → C → Bool) (S : Rule C → Type 0) (F : Rule C → ℕ → Type 0) (rules : List (Rule C)) (e : ℕ) (b p : List ℕ)

@@ -12,7 +12,7 @@ use lib.Dec.{ltb, eqb}
 use lib.ListN.{length, getD}
 use Rattle.answers.specs.declared.Numbers.{Numbers}
 use Rattle.answers.specs.declared.Answer.{Answer}
-use Rattle.answers.specs.declared.Answer.the-variants.{Done, BookLength, BookHeader, BookEnd, BookRecord, PlanLength, PlanHeader, PlanEnd, ValueUnknown, DurationOutside, NotSuccessor, PastLastTick, RuleNotMet}
+use Rattle.answers.specs.declared.Answer.the-variants.{Done, BookLength, BookHeader, BookEnd, BookRecord, PlanLength, PlanHeader, PlanEnd, ValueUnknown, DurationOutside, NotSuccessor, PastLastTick, RuleNotMet, EndsApart}
 use Rattle.answers.specs.Numbers.{numbers, numbersOf, noFault, orElse, else-fault, else-next}
 use Rattle.words.specs.Least.{first}
 use Rattle.layout.specs.Layout.{count, ending}
@@ -21,6 +21,7 @@ use Rattle.book.specs.Rules.{Rule, rulesOf}
 use Rattle.book.specs.Encode.{atoms, constraints}
 use Rattle.book.specs.Fault as book
 use Rattle.lines.specs.Lines.{lineOf}
+use Rattle.lines.specs.Ends.{firstApart, endsFault}
 use Rattle.plan.specs.Fault as plan
 use Rattle.choice.specs.Met.{Choice, atomHolds, constraintHolds}
 use Rattle.verdict.specs.Judged.{noRule, firstUnmet, ruleUnmet, examined, rulesFault, judged, judgedSheet}
@@ -39,6 +40,7 @@ pub data Listed : Numbers → Type 0 where
   outside : (timeline token : ℕ) → Listed (numbers 9 timeline token)
   breaks : (timeline token : ℕ) → Listed (numbers 10 timeline token)
   late : (timeline token : ℕ) → Listed (numbers 11 timeline token)
+  apart : (timeline : ℕ) → Listed (numbers 18 timeline 0)
   unmet : (rule token : ℕ) → Listed (numbers 12 rule token)
   accepted : (triggers : ℕ) → Listed (numbers 0 triggers 0)
 
@@ -96,11 +98,12 @@ module _ (e : ℕ) (b p : List ℕ) where
   -- all stages in their order
   module _ {C : Type 0} (holds : Choice → C → Bool) (rules : List (Rule C)) where
     pub all-listed : Listed (orElse (book.bookFault e b) (orElse (plan.planFault b p) (rulesFault holds (lineOf p) rules)))
-    unfolding firstOf book.lengthFault book.headerFault book.endFault book.recordFault plan.lengthFault plan.headFault plan.endFault rulesFault
+    unfolding firstOf book.lengthFault book.headerFault book.endFault book.recordFault plan.lengthFault plan.headFault plan.endFault endsFault rulesFault
     all-listed =
         let k : ℕ = book.firstHeader e b in
         let t : ℕ = book.firstTable e b in
         let h : ℕ = plan.firstHead b p in
+        let v : ℕ = firstApart b p in
         let a : ℕ = first (ruleUnmet holds (lineOf p)) rules in
         rw (in-order e b p (rulesFault holds (lineOf p) rules)) (
         next _ _ (given (ltb (length b) 14 || ltb 16384 (length b)) _ bookLength)
@@ -111,7 +114,8 @@ module _ (e : ℕ) (b p : List ℕ) where
         (next _ _ (given (ltb h (3 + 2 * count b 0)) _ (planHeader h))
         (next _ _ (ended (eqb (3 + 2 * count b 0 + 2 * plan.sumBefore p (count b 0)) (length p)) _ planEnd)
         (next _ _ tokens-listed
-        (settled (ltb a (length rules)) a (firstUnmet holds (lineOf p) (getD rules a noRule)) (examined (lineOf p) rules))))))))))
+        (next _ _ (given (ltb v (count b 0)) _ (apart v))
+        (settled (ltb a (length rules)) a (firstUnmet holds (lineOf p) (getD rules a noRule)) (examined (lineOf p) rules)))))))))))
 
 -- THE THEOREMS: the judge's answer is listed,
 pub judged-listed : (b p : List ℕ) → Listed (judged b p)
@@ -136,6 +140,7 @@ has-answer (unknown timeline token) = (ValueUnknown timeline token, refl)
 has-answer (outside timeline token) = (DurationOutside timeline token, refl)
 has-answer (breaks timeline token) = (NotSuccessor timeline token, refl)
 has-answer (late timeline token) = (PastLastTick timeline token, refl)
+has-answer (apart timeline) = (EndsApart timeline, refl)
 has-answer (unmet rule token) = (RuleNotMet rule token, refl)
 has-answer (accepted triggers) = (Done triggers 0, refl)
 

@@ -19,7 +19,7 @@ use Rattle.verdict.specs.Judged.{judged, judgedSheet}
 use Rattle.translator.specs.Translation.{translation}
 use Rattle.claims.specs.Specimens.{planP1, planP2, emptyPlan, freeBook, freeNamed, Specimen, stretches, stands, specimens, all-stand}
 use Rattle.claims.specs.Matched.{and-so, all-at}
-use Rattle.claims.specs.Answers.{Listed, bookLength, bookHeader, bookEnd, bookRecord, planLength, planHeader, planEnd, unknown, outside, breaks, late, unmet, accepted}
+use Rattle.claims.specs.Answers.{Listed, bookLength, bookHeader, bookEnd, bookRecord, planLength, planHeader, planEnd, unknown, outside, breaks, late, apart, unmet, accepted}
 use Rattle.claims.specs.Papers.{Satisfied, Met, Satisfies}
 use Rattle.claims.specs.Sheets.{Holds, SheetSatisfies}
 use Rattle.claims.specs.RulesMet.{Fails}
@@ -46,7 +46,7 @@ same-is x y h =
     let b = eqb-true _ _ (q .1) in
     ap (λ (k : ℕ). numbers k (x .a) (x .b)) n ∙ ap (λ (k : ℕ). numbers (y .number) k (x .b)) a ∙ ap (λ (k : ℕ). numbers (y .number) (y .a) k) b
 
--- the rows 1 to 12 and 0 of the fault table, each with an input that gets it
+-- the rows 1 to 12, 18 and 0 of the fault table, each with an input that gets it
 pub examples :
     (judged [] planP2 ≡ numbers 1 0 0)
     × (judged (set bookE 13 41) planP2 ≡ numbers 2 13 0)
@@ -64,6 +64,7 @@ pub examples :
     × (judged freeNamed emptyPlan ≡ numbers 12 0 0)
     × (judged bookE planP2 ≡ numbers 0 2 0)
     × (judged freeBook emptyPlan ≡ numbers 0 1 0)
+    × (judged bookE (set planP2 14 5) ≡ numbers 18 1 0)
 examples = (
   same-is _ _ (row 13 (omega arith)),
   same-is _ _ (row 14 (omega arith)),
@@ -81,6 +82,7 @@ examples = (
   same-is _ _ (row 12 (omega arith)),
   same-is _ _ (row 1 (omega arith)),
   same-is _ _ (row 11 (omega arith)),
+  same-is _ _ (row 5 (omega arith)),
 )
 
 -- the direct judge's rows 12 and 0, and the translator's 0 and 15
@@ -124,5 +126,6 @@ listed-occurs (unknown timeline token) = (bookE, set planP2 9 2, ap (λ (r : Num
 listed-occurs (outside timeline token) = (bookE, set planP2 14 4, ap (λ (r : Numbers). r .number) (examples .9))
 listed-occurs (breaks timeline token) = (bookE, set planP2 9 0, ap (λ (r : Numbers). r .number) (examples .10))
 listed-occurs (late timeline token) = (bookE, set planP2 10 999999991, ap (λ (r : Numbers). r .number) (examples .11))
+listed-occurs (apart timeline) = (bookE, set planP2 14 5, ap (λ (r : Numbers). r .number) (examples .16))
 listed-occurs (unmet rule token) = (bookE, planP1, ap (λ (r : Numbers). r .number) (examples .12))
 listed-occurs (accepted triggers) = (bookE, planP2, ap (λ (r : Numbers). r .number) (examples .14))

@@ -1,4 +1,4 @@
--- Demand 2, "otherwise the first fault in the stated order; no fault is named that isn't there": the rows 1 to 11 of the fault table, each
+-- Demand 2, "otherwise the first fault in the stated order; no fault is named that isn't there": the rows 1 to 11 and 18 of the fault table, each
 -- exactly if what it says is so and nothing before it in the order is. For a book and for a sheet alike. Row 12 is `fault-12` in
 -- FaultsOfRules, row 0 `accepted` in Accepted, and Examples has an input for each. Assumes nothing.
 use mathlib.Core.Path.{_≡_}
@@ -14,16 +14,18 @@ use Rattle.layout.specs.Layout.{count, ending}
 use Rattle.book.specs.Fault as book
 use Rattle.book.specs.Sound.{Sound}
 use Rattle.book.specs.Encode.{atoms, constraints}
-use Rattle.book.specs.Rules.{rulesOf}
+use Rattle.book.specs.Rules.{rulesOf, variablesOf}
 use Rattle.lines.specs.Lines.{lineOf}
 use Rattle.plan.specs.Fault as plan
 use Rattle.lines.specs.Good.{HeadGood}
 use Rattle.choice.specs.Met.{atomHolds, constraintHolds}
 use Rattle.verdict.specs.Judged.{rulesFault, judged, judgedSheet}
 use Rattle.claims.specs.Stages.{Stage, Own, Owned, Passed, firstOf, noStage, disjoint, bookStages, planStages, stagesOf, lastStage, at-stage, book-owned, plan-owned, owned, judge-disjoint, rules-own, in-order}
-use Rattle.claims.specs.Wrongs.{First, Tables, None, BookSized, HeaderWrong, TableGood, TableBad, PlanSized, HeadWrong}
-use Rattle.claims.specs.FaultsOfTables.{missed, outside, sized-none, header-none, end-none, with-book, header-is, record-is, plan-sized, head-none, plan-ends, head-is}
-use Rattle.claims.specs.Timelines.{variableOf}
+use Rattle.claims.specs.Wrongs.{First, Tables, None, BookSized, HeaderWrong, TableGood, TableBad, PlanSized, HeadWrong, EndsApart}
+use Rattle.claims.specs.FaultsOfTables.{missed, outside, sized-none, header-none, end-none, with-book, header-is, record-is, plan-sized, head-none, plan-ends, ends-is, head-is}
+use Rattle.plan.proofs.Good.{tokens-none}
+use Rattle.claims.specs.Papers.{Timelines}
+use Rattle.claims.specs.Timelines.{variableOf, timelines-iff}
 use Rattle.claims.specs.FaultsOfTokens.{TokenWrong, FirstToken, tokens-is}
 
 -- THE FAULT TABLE, row by row: of an answer to a book (edition e is 1) or sheet (2), whatever comes after it
@@ -54,6 +56,9 @@ pub record FaultTable (e : ℕ) (b p : List ℕ) (answer : Numbers) : Type 0 whe
   -- the first token in the order that is wrong, by the first of the four tests that it doesn't pass
   pub fault-8-to-11 : (n timeline token : ℕ) → 8 ≤ n → n ≤ 11 → (answer ≡ numbers n timeline token)
       ↔ (Sound e b × Tables b p × FirstToken b p timeline token × TokenWrong (variableOf b timeline) (lineOf p timeline) token n)
+  -- 18 "after 8 to 11 for all lines", "with the first timeline whose end differs from that of timeline 0"
+  pub fault-18 : (timeline : ℕ) → (answer ≡ numbers 18 timeline 0)
+      ↔ (Sound e b × Tables b p × Timelines (variablesOf b) (lineOf p) × First (count b 0) (EndsApart p) timeline)
 
 -- THE THEOREM for a book or sheet: whatever stages come after it, the answer is as the table says
 pub book-table : (e : ℕ) (b : List ℕ) (after : List Stage) (last : Stage) → Owned (last ∷ after) → disjoint (last ∷ bookStages e b after) ≡ true
@@ -133,9 +138,28 @@ fault-table e b p last own =
                 s .1
                 (with-book e b .1 (h .0, (plan-sized b p .1 (g .sized), (head-none b p .1 (g .head), (plan-ends b p .1 (g .whole), tt)))), t .1 (h .2, h .3)),
           );
+      fault-18 = λ v.
+          let s = stage 8 (numbers 18 v 0) (omega arith) (omega arith) (omega arith) (omega arith) in
+          let i = ends-is b p v in (
+            λ h.
+                let q = s .0 h in
+                let w = with-book e b .0 (q .0) in
+                let n = w .1 in
+                (
+                  w .0,
+                  record { sized = plan-sized b p .0 (n .0); head = head-none b p .0 (n .1 .0); whole = plan-ends b p .0 (n .1 .1 .0) },
+                  timelines-iff (w .0) p .1 (tokens-none b p .0 (n .1 .1 .1 .0)),
+                  i .0 (q .1),
+                ),
+            λ h.
+                let g = h .1 in
+                let t = tokens-none b p .1 (timelines-iff (h .0) p .0 (h .2)) in
+                s .1
+                (with-book e b .1 (h .0, (plan-sized b p .1 (g .sized), (head-none b p .1 (g .head), (plan-ends b p .1 (g .whole), (t, tt))))), i .1 (h .3)),
+          );
     })
   where
-    stage : (i : ℕ) (z : Numbers) → i < 8 → getD (stagesOf e b p) i noStage .low ≤ z .number → z .number < getD (stagesOf e b p) i noStage .high
+    stage : (i : ℕ) (z : Numbers) → i < 9 → getD (stagesOf e b p) i noStage .low ≤ z .number → z .number < getD (stagesOf e b p) i noStage .high
         → 1 ≤ z .number → (firstOf (stagesOf e b p) last ≡ z) ↔ (Passed (take i (stagesOf e b p)) × (getD (stagesOf e b p) i noStage .answer ≡ z))
     stage i z l = at-stage i (stagesOf e b p) (lastStage last) z l (owned e b p last own) (judge-disjoint e b p last)
 

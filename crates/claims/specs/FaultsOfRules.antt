@@ -99,13 +99,14 @@ module _ {C : Type 0} (holds : Choice → C → Bool) (S : Rule C → Type 0) (F
             let q = s .0 h in
             let w = with-book e b .0 (q .0) in
             let n = w .1 in
-            let r = plan-none (w .0) p .0 (stages _ _ .1 (n .0, stages _ _ .1 (n .1 .0, stages _ _ .1 (n .1 .1 .0, n .1 .1 .1 .0)))) in
+            let r = plan-none (w .0) p .0 (stages _ _ .1 (n .0, stages _ _ .1 (n .1 .0, stages _ _ .1 (n .1 .1 .0, stages _ _ .1 (n .1 .1 .1 .0, n .1 .1 .1 .1 .0))))) in
             (w .0, r .0, r .1, rules-is (w .0) (r .1) a c .0 (q .1)),
         λ h.
             let n = stages _ _ .0 (plan-none (h .0) p .1 (h .1, h .2)) in
             let m = stages _ _ .0 (n .1) in
             let l = stages _ _ .0 (m .1) in
-            s .1 (with-book e b .1 (h .0, (n .0, (m .0, (l .0, (l .1, tt))))), rules-is (h .0) (h .2) a c .1 (h .3)),
+            let k = stages _ _ .0 (l .1) in
+            s .1 (with-book e b .1 (h .0, (n .0, (m .0, (l .0, (k .0, (k .1, tt)))))), rules-is (h .0) (h .2) a c .1 (h .3)),
       )
 
 -- ---- THE THEOREMS

@@ -1,6 +1,6 @@
 -- The stages of the fault table's rows 1 to 7, opened: each gives its fault, or nothing, just where the plain facts say so. Assumes nothing.
 use mathlib.Core.Path.{_≡_, refl, sym, ap, _∙_}
-use mathlib.Core.Bool.{Bool, true, false, _||_, cond, true≢false, false≢true}
+use mathlib.Core.Bool.{Bool, true, false, _||_, not, cond, true≢false, false≢true}
 use mathlib.Core.Logic.{_↔_, _⊎_, inl, inr, ⊎-elim}
 use mathlib.Core.List.{List}
 use Prim.Native.Nat.{ℕ, _+_, _*_, _≤_, _<_}
@@ -17,10 +17,12 @@ use Rattle.layout.proofs.Tests.{or-right}
 use Rattle.book.proofs.Good.{good, good-back, no-number}
 use Rattle.book.specs.Sound.{Sound}
 use Rattle.book.proofs.Sound.{sound, sound-back}
+use Rattle.lines.specs.Lines.{lineOf}
+use Rattle.lines.specs.Ends.{lineEnd, planEnd, endsApart, firstApart, endsFault}
 use Rattle.plan.specs.Fault as plan
 use Rattle.lines.specs.Good.{HeadGood}
 use Rattle.lines.proofs.Head.{head-good, head-back}
-use Rattle.claims.specs.Wrongs.{First, None, BookSized, HeaderWrong, TableGood, TableBad, PlanSized, HeadWrong}
+use Rattle.claims.specs.Wrongs.{First, None, BookSized, HeaderWrong, TableGood, TableBad, PlanSized, HeadWrong, EndsApart}
 use Rattle.claims.specs.WrongTests.{or-so, none-is, first-is, header-iff, table-good, table-bad, head-iff}
 
 -- ---- a stage opened
@@ -141,6 +143,15 @@ module _ (e : ℕ) (b : List ℕ) where
       fails true n = absurd (n refl)
       fails false n = refl
 
+-- a line ends elsewhere: the test says just that
+apart-iff : (p : List ℕ) (v : ℕ) → (endsApart p v ≡ true) ↔ EndsApart p v
+unfolding endsApart
+apart-iff p v = by (eqb (lineEnd (lineOf p v)) (planEnd (lineOf p))) refl
+  where
+    by : (t : Bool) → eqb (lineEnd (lineOf p v)) (planEnd (lineOf p)) ≡ t → (not t ≡ true) ↔ EndsApart p v
+    by true e = (λ h. absurd (false≢true h), λ h. absurd (h (eqb-true _ _ e)))
+    by false e = (λ h. eqb-false _ _ e, λ h. refl)
+
 module _ (b p : List ℕ) where
   -- 5 to 7 found nothing
   pub plan-sized : (plan.lengthFault b p .number ≡ 0) ↔ PlanSized b p
@@ -163,6 +174,21 @@ module _ (b p : List ℕ) where
   pub plan-ends : (plan.endFault b p .number ≡ 0) ↔ (3 + 2 * count b 0 + 2 * plan.sumBefore p (count b 0) ≡ length p)
   unfolding plan.endFault
   plan-ends = reached 7 (omega arith) (3 + 2 * count b 0 + 2 * plan.sumBefore p (count b 0)) (length p)
+
+  -- 18 found nothing, and this
+  pub ends-none : (endsFault b p .number ≡ 0) ↔ None (count b 0) (EndsApart p)
+  unfolding endsFault
+  ends-none =
+      let g = not-given 18 (omega arith) (ltb (firstApart b p) (count b 0)) (firstApart b p) 0 in
+      let n = none-is (count b 0) (endsApart p) (EndsApart p) (apart-iff p) in
+      (λ h. n .0 (g .0 h), λ h. g .1 (n .1 h))
+
+  pub ends-is : (v : ℕ) → (endsFault b p ≡ numbers 18 v 0) ↔ First (count b 0) (EndsApart p) v
+  unfolding endsFault
+  ends-is v =
+      let g = given 18 (omega arith) (ltb (firstApart b p) (count b 0)) (firstApart b p) 0 v 0 in
+      let f = first-is (count b 0) (endsApart p) (EndsApart p) (apart-iff p) v in
+      (λ h. let q = g .0 h in f .0 (q .0, q .1), λ h. let q = f .1 h in g .1 (q .0, q .1, refl))
 
   -- 6 found this
   pub head-is : (k : ℕ) → (plan.headFault b p ≡ numbers 6 k 0) ↔ First (3 + 2 * count b 0) (HeadWrong b p) k

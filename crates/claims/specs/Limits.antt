@@ -21,6 +21,7 @@ use Rattle.book.specs.Rules.{nameAt, atomAt, constraintAt, alternativeAt, ruleA
 use Rattle.book.specs.Encode.{bookOf}
 use Rattle.book.proofs.Specimen.{same}
 use Rattle.lines.specs.Lines.{tokensFrom, lineOf}
+use Rattle.lines.specs.Ends.{endFrom, endsApart, endsFault}
 use Rattle.plan.specs.Fault as plan
 use Rattle.allen.specs.Relation.{relationOf}
 use Rattle.allen.specs.Atoms.{atomsOf}
@@ -216,5 +217,5 @@ translations =
 
 -- THE CLAIM: every row is as stated
 pub limits-stand : all (λ (row : Numbers × Numbers). same (row .0) (row .1)) (headers ++ records ++ plans ++ translations) ≡ true
-unfolding all any flatMap orElse least first run rows inSet inBounds fifthWidth fifthMost begins headerWrong starts owner setWrong valueTests fifthTestsOf fifthTests recordWrong leaves tableWrong book.lengthFault book.headerFault book.endFault book.recordFault book.bookFault nameAt atomAt constraintAt alternativeAt ruleAt rulesOf bookOf tokensFrom lineOf plan.lengthFault plan.sumBefore plan.headWrong plan.headFault plan.endFault plan.startOf plan.durationOutside plan.notSuccessor plan.tokenFault plan.tokenWrong plan.firstToken plan.lineWrong plan.tokensFault plan.planFault relationOf atomsOf put tokenTime timeOf atomHolds constraintHolds place alternativeMet met counted triggerLine isTrigger examined unmet firstUnmet ruleUnmet rulesFault judged keep relationsIn choices atomsFor expand translate rulesFor translated tooMany ruleFault sizeFault roomFault translation lineFault openFault
+unfolding all any flatMap orElse least first run rows inSet inBounds fifthWidth fifthMost begins headerWrong starts owner setWrong valueTests fifthTestsOf fifthTests recordWrong leaves tableWrong book.lengthFault book.headerFault book.endFault book.recordFault book.bookFault nameAt atomAt constraintAt alternativeAt ruleAt rulesOf bookOf tokensFrom lineOf plan.lengthFault plan.sumBefore plan.headWrong plan.headFault plan.endFault plan.startOf plan.durationOutside plan.notSuccessor plan.tokenFault plan.tokenWrong plan.firstToken plan.lineWrong plan.tokensFault plan.planFault endFrom endsApart endsFault relationOf atomsOf put tokenTime timeOf atomHolds constraintHolds place alternativeMet met counted triggerLine isTrigger examined unmet firstUnmet ruleUnmet rulesFault judged keep relationsIn choices atomsFor expand translate rulesFor translated tooMany ruleFault sizeFault roomFault translation lineFault openFault
 limits-stand = refl

@@ -14,6 +14,7 @@ use Rattle.words.specs.Lists.{All}
 use Rattle.clock.specs.Clock.{lastTick, noLimit}
 use Rattle.book.specs.Rules.{Value, Variable, Name, Atom, Alternative, Rule}
 use Rattle.lines.specs.declared.Token.{Token}
+use Rattle.lines.specs.Ends.{lineEnd, planEnd}
 use Rattle.choice.specs.Met.{nobody}
 
 -- ---- 001, Definitions 1, 2 and 4: state variables, tokens, timelines, plans
@@ -56,10 +57,14 @@ pub record Timeline (x : Variable) (line : List Token) : Type 0 where
 abbrev pub noVariable : Variable
 noVariable = record { values = [] }
 
--- 001, Definition 4, a plan over the state variables: "timelines .., one for each state variable". "Timelines may end at different times"
--- (document 01), where that definition asks for "the same horizon"
+-- "timelines .., one for each state variable"
+abbrev pub Timelines : List Variable → (ℕ → List Token) → Type 0
+Timelines variables lines = (x : ℕ) → x < length variables → Timeline (getD variables x noVariable) (lines x)
+
+-- 001, Definition 4, and 000, Definition 2.4, a plan over the state variables: its timelines have "the same horizon"
 pub record Plan (variables : List Variable) (lines : ℕ → List Token) : Type 0 where
-  pub timeline : (x : ℕ) → x < length variables → Timeline (getD variables x noVariable) (lines x)
+  pub timeline : Timelines variables lines
+  pub horizon : (x : ℕ) → x < length variables → lineEnd (lines x) ≡ planEnd lines
 
 -- ---- 000, Definitions 2.5 and 2.9: terms and atoms; name 0 is the trigger's, names 1, 2, .. the statement's
 

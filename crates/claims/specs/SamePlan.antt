@@ -20,6 +20,7 @@ use Rattle.lines.specs.Lines.{lineCount, linePlace, tokensFrom, lineOf, valueOf
 use Rattle.clock.specs.Clock.{lastTick}
 use Rattle.lines.specs.Fault.{lengthFault, headWrong, headFault, endFault}
 use Rattle.plan.proofs.Good.{outside-right}
+use Rattle.lines.specs.Ends.{endsFault}
 use Rattle.plan.specs.Fault.{valuePlace, durationOutside, notSuccessor, tokenFault, tokenWrong, firstToken, lineWrong, firstLine, lineFault, tokensFault, planFault}
 use Rattle.claims.specs.Laws.{least-agree}
 use Rattle.claims.specs.Expansion.{Proper}
@@ -114,9 +115,9 @@ module _ (b c : List ℕ) (same : SameVariables b c) (p : List ℕ) where
       by true e = fault-same (firstLine b p) (ltb-true _ _ e)
       by false e = refl
 
-  -- THE LAW: the same faults 5 to 11
+  -- THE LAW: the same faults 5 to 11 and 18
   pub plan-same : planFault b p ≡ planFault c p
-  unfolding planFault lengthFault headFault endFault
+  unfolding planFault lengthFault headFault endFault endsFault
   plan-same = rw (same .variables, head-same, tokens-fault-same)
 
 -- ---- a plan without the faults 5 to 11
@@ -134,7 +135,7 @@ module _ (b p : List ℕ) where
   unfolding planFault tokensFault lineWrong firstToken
   tokens-right h v l =
       let s = stages (lengthFault b p) _ .0 h .1 in
-      let f = stages (endFault b p) _ .0 (stages (headFault b p) _ .0 s .1) .1 in
+      let f = stages (tokensFault b p) (endsFault b p) .0 (stages (endFault b p) _ .0 (stages (headFault b p) _ .0 s .1) .1) .0 in
       let line : lineWrong b p v ≡ false = none-below (count b 0) (lineWrong b p) .0 (by _ refl f) v l in
       none-below (lineCount p v) (tokenWrong b p v) .0 line
     where

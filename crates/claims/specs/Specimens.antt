@@ -21,6 +21,7 @@ use Rattle.book.specs.Rules.{nameAt, atomAt, constraintAt, alternativeAt, ruleA
 use Rattle.book.specs.Encode.{bookOf}
 use Rattle.book.proofs.Specimen.{bookE, sheetE, same}
 use Rattle.lines.specs.Lines.{tokensFrom, lineOf}
+use Rattle.lines.specs.Ends.{endFrom, endsApart, endsFault}
 use Rattle.plan.specs.Fault as plan
 use Rattle.allen.specs.Relation.{relationOf}
 use Rattle.allen.specs.Atoms.{atomsOf}
@@ -87,15 +88,15 @@ specimens =
     byBook bookE planP1 (numbers 12 0 3)
     ∷ byBook bookE planP2 (numbers 0 2 0)
     ∷ byBook bookE emptyPlan (numbers 0 0 0)
-    -- 9: "P2 with the job of 20 at 4", "At 61"; "5 and 60 pass 9"
+    -- 9: "P2 with the job of 20 at 4", "At 61"; "5 and 60 pass 9": the RIP's line then ends elsewhere (18)
     ∷ byBook bookE (set planP2 14 4) (numbers 9 1 1)
     ∷ byBook bookE (set planP2 14 61) (numbers 9 1 1)
-    ∷ byBook bookE (set planP2 14 5) (numbers 0 2 0)
-    ∷ byBook bookE (set planP2 14 60) (numbers 12 0 1)
+    ∷ byBook bookE (set planP2 14 5) (numbers 18 1 0)
+    ∷ byBook bookE (set planP2 14 60) (numbers 18 1 0)
     -- 10, 8, 11: "P2 with the second decoder token's value 0", "2", "duration 999,999,990 passes 11; 999,999,991"
     ∷ byBook bookE (set planP2 9 0) (numbers 10 0 1)
     ∷ byBook bookE (set planP2 9 2) (numbers 8 0 1)
-    ∷ byBook bookE (set planP2 10 999999990) (numbers 0 2 0)
+    ∷ byBook bookE (set planP2 10 999999990) (numbers 18 1 0)
     ∷ byBook bookE (set planP2 10 999999991) (numbers 11 0 1)
     -- "A rule without trigger, one alternative, no names, no atoms: met on the empty plan, counts 1. With one name: 12"
     ∷ byBook freeBook emptyPlan (numbers 0 1 0)
@@ -128,5 +129,5 @@ specimens =
 
 -- THE CLAIM: every specimen is as stated
 pub all-stand : all stands specimens ≡ true
-unfolding all any flatMap orElse least first run rows inSet inBounds fifthWidth fifthMost begins headerWrong starts owner setWrong valueTests fifthTestsOf fifthTests recordWrong leaves tableWrong book.lengthFault book.headerFault book.endFault book.recordFault book.bookFault nameAt atomAt constraintAt alternativeAt ruleAt rulesOf bookOf tokensFrom lineOf plan.lengthFault plan.sumBefore plan.headWrong plan.headFault plan.endFault plan.startOf plan.durationOutside plan.notSuccessor plan.tokenFault plan.tokenWrong plan.firstToken plan.lineWrong plan.tokensFault plan.planFault relationOf atomsOf put tokenTime timeOf atomHolds constraintHolds place alternativeMet met counted triggerLine isTrigger examined unmet firstUnmet ruleUnmet rulesFault judged judgedSheet keep relationsIn choices atomsFor expand translate rulesFor translated tooMany ruleFault sizeFault roomFault translation
+unfolding all any flatMap orElse least first run rows inSet inBounds fifthWidth fifthMost begins headerWrong starts owner setWrong valueTests fifthTestsOf fifthTests recordWrong leaves tableWrong book.lengthFault book.headerFault book.endFault book.recordFault book.bookFault nameAt atomAt constraintAt alternativeAt ruleAt rulesOf bookOf tokensFrom lineOf plan.lengthFault plan.sumBefore plan.headWrong plan.headFault plan.endFault plan.startOf plan.durationOutside plan.notSuccessor plan.tokenFault plan.tokenWrong plan.firstToken plan.lineWrong plan.tokensFault plan.planFault endFrom endsApart endsFault relationOf atomsOf put tokenTime timeOf atomHolds constraintHolds place alternativeMet met counted triggerLine isTrigger examined unmet firstUnmet ruleUnmet rulesFault judged judgedSheet keep relationsIn choices atomsFor expand translate rulesFor translated tooMany ruleFault sizeFault roomFault translation
 all-stand = refl

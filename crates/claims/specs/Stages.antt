@@ -21,6 +21,7 @@ use Rattle.records.specs.Wrong.{valueUnknown}
 use Rattle.book.specs.Fault.{lowest}
 use Rattle.book.specs.Fault as book
 use Rattle.lines.specs.declared.Token.{Token}
+use Rattle.lines.specs.Ends.{firstApart, endsFault}
 use Rattle.plan.specs.Fault as plan
 use Rattle.choice.specs.Met.{Choice}
 use Rattle.verdict.specs.Judged.{ruleUnmet, rulesFault}
@@ -191,10 +192,10 @@ abbrev pub bookStages : ℕ → List ℕ → List Stage → List Stage
 bookStages e b after =
     stage 1 2 (book.lengthFault b) ∷ stage 2 3 (book.headerFault e b) ∷ stage 3 4 (book.endFault e b) ∷ stage 4 5 (book.recordFault e b) ∷ after
 
--- 5 to 7 and 8 to 11 of a plan
+-- 5 to 7, 8 to 11 and 18 of a plan
 abbrev pub planStages : List ℕ → List ℕ → List Stage
 planStages b p =
-    stage 5 6 (plan.lengthFault b p) ∷ stage 6 7 (plan.headFault b p) ∷ stage 7 8 (plan.endFault b p) ∷ stage 8 12 (plan.tokensFault b p) ∷ []
+    stage 5 6 (plan.lengthFault b p) ∷ stage 6 7 (plan.headFault b p) ∷ stage 7 8 (plan.endFault b p) ∷ stage 8 12 (plan.tokensFault b p) ∷ stage 18 19 (endsFault b p) ∷ []
 
 abbrev pub stagesOf : ℕ → List ℕ → List ℕ → List Stage
 stagesOf e b p = bookStages e b (planStages b p)
@@ -255,15 +256,16 @@ book-owned e b after l h =
 
 -- and those of a plan, whatever comes last with the number 12 or none
 pub plan-owned : (b p : List ℕ) (last : Numbers) → Own 12 13 last → Owned (lastStage last ∷ planStages b p)
-unfolding plan.lengthFault plan.headFault plan.endFault
+unfolding plan.lengthFault plan.headFault plan.endFault endsFault
 plan-owned b p last h =
-    let k : ℕ = plan.firstHead b p in (
+    let k : ℕ = plan.firstHead b p in
+    let v : ℕ = firstApart b p in (
       h,
       (
         own-test (ltb (length p) (3 + 2 * count b 0) || ltb 16384 (length p)) 5 0 0,
         (
           own-test (ltb k (3 + 2 * count b 0)) 6 k 0,
-          (own-end (eqb (3 + 2 * count b 0 + 2 * plan.sumBefore p (count b 0)) (length p)) 7, (tokens-own b p, tt)),
+          (own-end (eqb (3 + 2 * count b 0 + 2 * plan.sumBefore p (count b 0)) (length p)) 7, (tokens-own b p, (own-test (ltb v (count b 0)) 18 v 0, tt))),
         ),
       ),
     )

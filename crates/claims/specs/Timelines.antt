@@ -3,7 +3,7 @@
 use mathlib.Core.Path.{_≡_, refl, sym, ap, _∙_}
 use mathlib.Core.Bool.{true}
 use mathlib.Core.Logic.{_↔_, _⊎_, inl, inr, ⊎-elim}
-use mathlib.Core.List.{List}
+use mathlib.Core.List.{List, [], _∷_}
 use Prim.Native.Nat.{ℕ, zero, suc, _+_, _-_, _*_, _≤_, _<_}
 use native.Mathlib.Nat.{add-zero}
 use native.Mathlib.Omega.{arith}
@@ -17,11 +17,12 @@ use Rattle.book.proofs.Inside.{in-range}
 use Rattle.book.specs.Rules.{Variable, valueAt, variableAt, variablesOf}
 use Rattle.lines.specs.declared.Token.{Token}
 use Rattle.lines.specs.Lines.{token, lineCount, lineOf}
+use Rattle.lines.specs.Ends.{endFrom, lineEnd, planEnd}
 use Rattle.plan.specs.Fault as plan
 use Rattle.lines.proofs.Laws.{line-length, line-token}
 use Rattle.plan.specs.Good.{TokenGood}
 use Rattle.choice.specs.Met.{nobody}
-use Rattle.claims.specs.Papers.{noValue, valueOf, Lasts, Follows, tokenOf, durationOf, Timeline, noVariable, Plan}
+use Rattle.claims.specs.Papers.{noValue, valueOf, Lasts, Follows, tokenOf, durationOf, Timeline, noVariable, Timelines, Plan}
 
 -- ---- a timeline's starts
 
@@ -39,6 +40,19 @@ starts-at t (suc i) l =
     let before = starts-at t i (omega arith) in
     let start = t .next i l ∙ before .1 in
     (start, omega (arith, start, t .forward (suc i) l))
+
+-- when it ends: an empty one at 0, another with its last token
+ends-with : (start : ℕ) (line : List Token) (i : ℕ) → suc i ≡ length line → endFrom start line ≡ tokenOf line i .end .tick
+unfolding endFrom
+ends-with start [] i h = absurd (omega arith)
+ends-with start (t ∷ []) zero h = refl
+ends-with start (t ∷ []) (suc i) h = absurd (omega arith)
+ends-with start (t ∷ (u ∷ line)) zero h = absurd (omega arith)
+ends-with start (t ∷ (u ∷ line)) (suc i) h = ends-with (t .end .tick) (u ∷ line) i (omega arith)
+
+pub line-ends : (lineEnd [] ≡ 0) × ((line : List Token) (i : ℕ) → suc i ≡ length line → lineEnd line ≡ tokenOf line i .end .tick)
+unfolding endFrom
+line-ends = (refl, ends-with 0)
 
 -- ---- what a token keeps
 
@@ -168,8 +182,18 @@ module _ {e : ℕ} {b : List ℕ} (s : Sound e b) (p : List ℕ) where
       })
 
   -- THE LAW: the decoded plan is a plan over the book's state variables just where every token is good
-  pub plan-iff : Plan (variablesOf b) (lineOf p) ↔ ((v : ℕ) → v < count b 0 → (j : ℕ) → j < lineCount p v → TokenGood b p v j)
+  pub timelines-iff : Timelines (variablesOf b) (lineOf p) ↔ ((v : ℕ) → v < count b 0 → (j : ℕ) → j < lineCount p v → TokenGood b p v j)
+  unfolding variablesOf
+  timelines-iff =
+      let long : length (variablesOf b) ≡ count b 0 = length-run (variableAt b) 2 (count b 0) (offset b 0) in
+      (λ q v l. timeline-from v l (q v (omega arith)), λ g v l. timeline-to v (omega arith) (g v (omega arith)))
+
+  -- and they make a plan where they end together
+  pub plan-iff : Plan (variablesOf b) (lineOf p)
+      ↔ (((v : ℕ) → v < count b 0 → (j : ℕ) → j < lineCount p v → TokenGood b p v j) × ((v : ℕ) → v < count b 0 → lineEnd (lineOf p v) ≡ planEnd (lineOf p)))
   unfolding variablesOf
   plan-iff =
-      let long : length (variablesOf b) ≡ count b 0 = length-run (variableAt b) 2 (count b 0) (offset b 0) in
-      (λ q v l. timeline-from v l (q .timeline v (omega arith)), λ g. record { timeline = λ v l. timeline-to v (omega arith) (g v (omega arith)) })
+      let long : length (variablesOf b) ≡ count b 0 = length-run (variableAt b) 2 (count b 0) (offset b 0) in (
+        λ q. (timelines-iff .0 (q .timeline), λ v l. q .horizon v (omega arith)),
+        λ g. record { timeline = timelines-iff .1 (g .0); horizon = λ v l. g .1 v (omega arith) },
+      )

@@ -9,7 +9,8 @@ use lib.ListN.{length, getD}
 use Rattle.words.specs.Words.{word}
 use Rattle.layout.specs.Layout.{fewest, most, count, offset, begins, starts}
 use Rattle.records.specs.Wrong.{recordTests}
-use Rattle.lines.specs.Lines.{lineFirst, lineCount}
+use Rattle.lines.specs.Lines.{lineFirst, lineCount, lineOf}
+use Rattle.lines.specs.Ends.{lineEnd, planEnd}
 use Rattle.lines.specs.Fault.{sumBefore}
 use Rattle.lines.specs.Good.{HeadGood}
 
@@ -74,6 +75,10 @@ pub data HeadWrong (b p : List ℕ) : ℕ → Type 0 where
   timelines : (word p 2 ≡ count b 0 → ⊥) → HeadWrong b p 2
   first : (v : ℕ) → (lineFirst p v ≡ sumBefore p v → ⊥) → HeadWrong b p (3 + 2 * v)
   many : (v : ℕ) → 512 < lineCount p v → HeadWrong b p (4 + 2 * v)
+
+-- 18 "timeline whose end differs from that of timeline 0"
+abbrev pub EndsApart : List ℕ → ℕ → Type 0
+EndsApart p v = lineEnd (lineOf p v) ≡ planEnd (lineOf p) → ⊥
 
 -- not 5, 6, 7: the words of a plan before its tokens are right, and the tokens end at the length
 pub record Tables (b p : List ℕ) : Type 0 where

@@ -1,4 +1,4 @@
-// The layout of a plan, answers 5 to 7, and a position on one of its timelines.
+// The layout of a plan, answers 5 to 7, when its lines end, answer 18, and a position on one of its timelines.
 use answers::Answer;
 use clock::Later;
 use clock::Time;
@@ -6,6 +6,8 @@ ghost use mathlib.Core.Path.{_≡_};
 ghost use Prim.Native.Nat.{_<_, _^_};
 ghost use Rattle.answers.specs.Numbers.{numbersOf};
 ghost use Rattle.clock.specs.Clock.{noLimit};
+ghost use Rattle.lines.specs.Lines.{lineOf};
+ghost use Rattle.lines.specs.Ends.{lineEnd, planEnd, firstApart, endsFault};
 ghost use Rattle.lines.specs.Fault.{sumBefore, headWrong, firstHead, linesFault};
 ghost use Rattle.lines.specs.Walk.{position, stepOf};
 
@@ -95,6 +97,58 @@ pub fn check(book: &[u32], plan: &[u32]) -> Answer
     let sum = sum_before(plan, n);
     if start + 2 * sum != length {
         return Answer::PlanEnd;
+    }
+    Answer::Done { a: 0, b: 0 }
+}
+
+// When line v ends. The sum of a line's durations fits 64 bits, whatever the words are.
+fn line_end(plan: &[u32], v: usize) -> u64
+    requires { ⌜ v < 2 ^ 32 ⌝ }
+    ensures { λ r. ⌜ r ≡ lineEnd (lineOf (now (plan .entry)) v) ⌝ }
+{
+    let lines = words::number_at(plan, 2);
+    let first = words::number_at(plan, 3 + 2 * v);
+    let mut left = words::word_at(plan, 4 + 2 * v);
+    let mut at = 3 + 2 * lines + 2 * first;
+    let mut end: u64 = 0;
+    while left > 0 {
+        end += words::word_at(plan, at + 1) as u64;
+        at += 2;
+        left -= 1;
+    }
+    end
+}
+
+// When the plan ends, if its lines end together.
+pub fn plan_end(plan: &[u32]) -> u64
+    ensures { λ r. ⌜ r ≡ planEnd (lineOf (now (plan .entry))) ⌝ }
+{
+    line_end(plan, 0)
+}
+
+// The first line that doesn't end with line 0, or how many lines there are.
+fn first_apart(book: &[u32], plan: &[u32]) -> u32
+    ensures { λ r. ⌜ r ≡ firstApart (now (book .entry)) (now (plan .entry)) ⌝ }
+{
+    let n = words::word_at(book, 2);
+    let end = line_end(plan, 0);
+    let mut v: u32 = 0;
+    while v < n {
+        if line_end(plan, v as usize) != end {
+            return v;
+        }
+        v += 1;
+    }
+    v
+}
+
+// What is wrong with the lines' ends: answer 18 for the first that doesn't end with line 0, or no fault.
+pub fn check_ends(book: &[u32], plan: &[u32]) -> Answer
+    ensures { λ r. ⌜ numbersOf r ≡ endsFault (now (book .entry)) (now (plan .entry)) ⌝ }
+{
+    let v = first_apart(book, plan);
+    if v < words::word_at(book, 2) {
+        return Answer::EndsApart { timeline: v };
     }
     Answer::Done { a: 0, b: 0 }
 }

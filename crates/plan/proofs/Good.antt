@@ -19,6 +19,7 @@ use Rattle.layout.proofs.Tests.{or-right, not-right}
 use Rattle.lines.specs.Lines.{lineCount, valueOf}
 use Rattle.lines.specs.Fault.{lengthFault, sumBefore, headWrong, headFault, endFault}
 use Rattle.lines.proofs.Head.{head-good, head-back}
+use Rattle.lines.specs.Ends.{endsApart, endsFault}
 use Rattle.plan.specs.Fault.{valuePlace, durationOutside, notSuccessor, tokenFault, tokenWrong, firstToken, lineWrong, firstLine, lineFault, tokensFault, planFault}
 use Rattle.plan.specs.Good.{TokenGood, PlanGood}
 use Rattle.plan.proofs.Tokens.{token-passes, bad-token}
@@ -85,27 +86,37 @@ module _ (b p : List ℕ) where
       split true e z = absurd (bad-token b p (firstLine b p) (least-law (count b 0) (lineWrong b p) .here (ltb-true _ _ e)) z)
       split false e z = none-below _ _ .0 e
 
+  tokens-back : ltb (firstLine b p) (count b 0) ≡ false → tokensFault b p .number ≡ 0
+  unfolding tokensFault
+  tokens-back h = rw h
+
+  -- the tokens' stage finds nothing just where every token is good
+  pub tokens-none : (tokensFault b p .number ≡ 0) ↔ ((v : ℕ) → v < count b 0 → (j : ℕ) → j < lineCount p v → TokenGood b p v j)
+  tokens-none = (λ h v l. line-good v (tokens-good h v l), λ g. tokens-back (none-below (count b 0) (lineWrong b p) .1 (λ v l. line-back v (g v l))))
+
   -- a plan with the answer number 0 is good
   good-number : planFault b p .number ≡ 0 → PlanGood b p
-  unfolding planFault lengthFault headFault endFault
+  unfolding planFault lengthFault headFault endFault endsFault endsApart
   good-number h =
       let s1 = stages _ _ .0 h in
       let s2 = stages _ _ .0 (s1 .1) in
       let s3 = stages _ _ .0 (s2 .1) in
+      let s4 = stages _ _ .0 (s3 .1) in
       let size = or-right _ _ .0 (stage _ 4 0 0 (s1 .0)) in
       record {
         long = ltb-false _ _ (size .0);
         short = ltb-false _ _ (size .1);
         head = head-good b p (none-below _ _ .0 (stage _ 5 _ _ (s2 .0)));
         whole = eqb-true _ _ (held _ 6 0 0 (s3 .0));
-        tokens = λ v l. line-good v (tokens-good (s3 .1) v l);
+        tokens = λ v l. line-good v (tokens-good (s4 .0) v l);
+        together = λ v l. eqb-true _ _ (not-false _ (none-below _ _ .0 (stage _ 17 _ _ (s4 .1)) v l));
       }
 
   pub plan-good : planFault b p ≡ noFault → PlanGood b p
   plan-good h = good-number (ap (λ (n : Numbers). n .number) h)
 
   pub plan-good-back : PlanGood b p → planFault b p ≡ noFault
-  unfolding planFault lengthFault headFault endFault tokensFault orElse
+  unfolding planFault lengthFault headFault endFault tokensFault endsFault endsApart orElse
   plan-good-back g =
       simp (
         le-ltb (length p) (3 + 2 * count b 0) (g .long),
@@ -113,6 +124,7 @@ module _ (b p : List ℕ) where
         none-below (3 + 2 * count b 0) (headWrong b p) .1 (head-back b p (g .head)),
         eq-eqb (3 + 2 * count b 0 + 2 * sumBefore p (count b 0)) (length p) (g .whole),
         none-below (count b 0) (lineWrong b p) .1 (λ v l. line-back v (g .tokens v l)),
+        none-below (count b 0) (endsApart p) .1 (λ v l. rw (eq-eqb _ _ (g .together v l))),
       )
 
   -- with the number 0 the other two numbers are 0 too

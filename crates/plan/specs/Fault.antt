@@ -14,6 +14,7 @@ use Rattle.lines.specs.Lines.{lineCount}
 pub use Rattle.lines.specs.Lines.{valueOf, durationOf}
 unfoldable pub use Rattle.lines.specs.Lines.{startOf}
 pub use Rattle.lines.specs.Fault.{firstHead}
+use Rattle.lines.specs.Ends.{endsFault}
 unfoldable pub use Rattle.lines.specs.Fault.{lengthFault, sumBefore, headWrong, headFault, endFault}
 
 -- where the book has value x of variable v
@@ -61,6 +62,7 @@ lineFault b p v = numbers (tokenFault b p v (firstToken b p v)) v (firstToken b 
 unfoldable pub tokensFault : List ℕ → List ℕ → Numbers
 tokensFault b p = cond (ltb (firstLine b p) (count b 0)) (lineFault b p (firstLine b p)) noFault
 
--- "Fault numbers, in order of checking"
+-- "Fault numbers, in order of checking"; 18 "after 8 to 11 for all lines"
 unfoldable pub planFault : List ℕ → List ℕ → Numbers
-planFault b p = orElse (lengthFault b p) (orElse (headFault b p) (orElse (endFault b p) (tokensFault b p)))
+planFault b p =
+    orElse (lengthFault b p) (orElse (headFault b p) (orElse (endFault b p) (orElse (tokensFault b p) (endsFault b p))))

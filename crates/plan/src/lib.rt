@@ -198,7 +198,7 @@ fn check_tokens(book: &[u32], plan: &[u32]) -> Answer
     Answer::Done { a: 0, b: 0 }
 }
 
-// What is wrong with the plan, given the book: the first of answers 5 to 11 that fits, or no fault.
+// What is wrong with the plan, given the book: the first of answers 5 to 11 and 18 that fits, or no fault.
 pub fn check(book: &[u32], plan: &[u32]) -> Answer
     ensures { λ r. ⌜ numbersOf r ≡ planFault (now (book .entry)) (now (plan .entry)) ⌝ }
 {
@@ -206,5 +206,9 @@ pub fn check(book: &[u32], plan: &[u32]) -> Answer
     if answers::numbers_of(first).number != 0 {
         return first;
     }
-    check_tokens(book, plan)
+    let second = check_tokens(book, plan);
+    if answers::numbers_of(second).number != 0 {
+        return second;
+    }
+    lines::check_ends(book, plan)
 }

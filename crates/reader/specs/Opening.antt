@@ -18,7 +18,7 @@ use Rattle.lines.specs.Walk.{position}
 unfoldable pub lineFault : List ℕ → ℕ → Numbers
 lineFault b line = cond (ltb line (count b 0)) noFault (numbers 17 0 0)
 
--- "Opening it answers 1 to 11 as above, then 17"
+-- "Opening it answers 1 to 11 as above, then 17"; 18 comes before 17
 unfoldable pub openFault : List ℕ → List ℕ → ℕ → Numbers
 openFault b p line = orElse (bookFault 1 b) (orElse (planFault b p) (lineFault b line))
 

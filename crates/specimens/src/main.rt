@@ -32,10 +32,10 @@ fn main() {
     // a rule without trigger on the empty plan: no names, and one name
     files::judge(b"bare.bin", b"empty.bin");
     files::judge(b"named.bin", b"empty.bin");
-    // P2 with the job of 20 at 5 and at 60: both pass 9; the longer one leaves the decoder's stretch
+    // P2 with the job of 20 at 5 and at 60: both pass 9, and the RIP's line then ends elsewhere
     files::judge(b"book.bin", b"job5.bin");
     files::judge(b"book.bin", b"job60.bin");
-    // the second decoder token at 999,999,990 passes 11
+    // the second decoder token at 999,999,990 passes 11, and its line ends elsewhere
     files::judge(b"book.bin", b"last.bin");
     // E's rule as a sheet: in a room for 16,384 words, and for 105
     files::translate(b"sheet.bin", b"made.bin", b"made.bin.new");

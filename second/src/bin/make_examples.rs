@@ -139,6 +139,12 @@ fn all() -> Vec<Example> {
             [11, 0, 1],
             "Token 1 of the decoder ends one tick after the last.",
         ),
+        e(
+            "fault-18",
+            with(&P2, 14, 5),
+            [18, 1, 0],
+            "Timeline 1, the RIP's, ends at tick 35, but timeline 0, the decoder's, ends at 50.",
+        ),
         sheet(
             "sheet",
             &P1,

@@ -102,6 +102,23 @@ pub fn alternative(names: &[[u32; 2]], tests: &[&[u32]]) -> AlternativeDraft {
 /// The tokens of each timeline: value, duration.
 pub type Lines = Vec<Vec<[u32; 2]>>;
 
+/// When a line ends.
+pub fn end(line: &[[u32; 2]]) -> u32 {
+    line.iter().map(|token| token[1]).sum()
+}
+
+/// Stretches the last token of each line to where the longest line ends. A line
+/// without tokens stays.
+pub fn end_together(lines: &mut Lines) {
+    let latest = lines.iter().map(|line| end(line)).max().unwrap_or(0);
+    for line in lines {
+        let missing = latest - end(line);
+        if let Some(last) = line.last_mut() {
+            last[1] += missing;
+        }
+    }
+}
+
 pub fn plan_words(lines: &Lines) -> Vec<u32> {
     let tokens: usize = lines.iter().map(Vec::len).sum();
     let total = 3 + 2 * lines.len() + 2 * tokens;

@@ -180,13 +180,17 @@ fn brim(rng: &mut Rng) -> Draft {
     draft
 }
 
-/// Long lines for a draft of variables that follow themselves, with a last
-/// token that ends at the last tick or just past it.
+/// Long lines for a draft of variables that follow themselves, which mostly end
+/// together, at the last tick or just past it; the others end anywhere.
 pub fn long_plan(rng: &mut Rng, draft: &Draft) -> Vec<u32> {
     let mut lines: Lines = Vec::new();
     let mut left = 8_174;
+    let together = rng.percent(60);
+    let end = rng.pick(&[LAST, LAST, LAST - 1, LAST + 1, 513]);
+    let counts: &[usize] =
+        if together { &[1, 2, 511, 512, 512] } else { &[0, 1, 2, 511, 512, 512, 513] };
     for values in &draft.variables {
-        let count = rng.pick(&[0, 1, 2, 511, 512, 512, 513]).min(left);
+        let count = rng.pick(counts).min(left);
         left -= count;
         let mut line = vec![[0, 0]; count];
         for token in &mut line {
@@ -194,8 +198,11 @@ pub fn long_plan(rng: &mut Rng, draft: &Draft) -> Vec<u32> {
         }
         if let Some(last) = line.last_mut() {
             let before = count as u32 - 1;
-            let exact = LAST - before;
-            last[1] = rng.pick(&[1, exact, exact - 1, exact + 1, N, LAST, LAST + 1, 0]);
+            let exact = end - before;
+            last[1] = match together {
+                true => exact,
+                false => rng.pick(&[1, exact, exact - 1, exact + 1, N, LAST, LAST + 1, 0]),
+            };
         }
         lines.push(line);
     }

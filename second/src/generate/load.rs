@@ -1,6 +1,6 @@
 //! Inputs that are as large, or need as much searching, as can be.
 
-use super::draft::{alternative, plan_words, AlternativeDraft, Draft, Lines};
+use super::draft::{alternative, end_together, plan_words, AlternativeDraft, Draft, Lines};
 use crate::layout::{Kind, LAST, N};
 
 /// Sixteen variables of 32 values that all follow each other.
@@ -35,7 +35,9 @@ pub fn largest_plan() -> Vec<u32> {
         let count = if number < 14 { 511 } else { 510 };
         (0..count).map(|i| [(i + number) % 31, 1 + i % 7]).collect()
     };
-    plan_words(&(0..16).map(line).collect())
+    let mut lines: Lines = (0..16).map(line).collect();
+    end_together(&mut lines);
+    plan_words(&lines)
 }
 
 /// Lines of 512 tokens of length 10, of values 0 and 1 in turn.
@@ -70,11 +72,12 @@ pub fn two_names() -> (Vec<u32>, Vec<u32>) {
     (draft.words(), full_lines(3))
 }
 
-/// One trigger and one line for each name, with an atom that never holds
+/// One trigger as long as the plan, and one line for each name, with an atom that never holds
 /// between the first name and the last. Free, every choice has to be tried;
 /// chained, each name also has to come after the one before.
 pub fn names(names: u32, tokens: usize, chained: bool) -> (Vec<u32>, Vec<u32>) {
     let mut draft = Draft::new(Kind::Book, vec![vec![[10, 10, 1]]; names as usize + 1]);
+    draft.variables[0] = vec![[10, N, 1]];
     let mut one = AlternativeDraft::default();
     for name in 1..=names {
         one.names.push([name, 0]);
@@ -87,14 +90,16 @@ pub fn names(names: u32, tokens: usize, chained: bool) -> (Vec<u32>, Vec<u32>) {
     draft.rule([0, 0], vec![one]);
     let mut lines: Lines = vec![vec![[0, 10]; tokens]; names as usize + 1];
     lines[0].truncate(1);
+    end_together(&mut lines);
     (draft.words(), plan_words(&lines))
 }
 
-/// Full lines for four names, each with the value 1 only where `at` says.
-fn four_names(trigger: Vec<[u32; 2]>, at: fn(u32) -> bool) -> Vec<u32> {
+/// One trigger as long as the plan, and full lines for four names, each with
+/// the value 1 only where `at` says.
+fn four_names(at: fn(u32) -> bool) -> Vec<u32> {
     let line: Vec<[u32; 2]> = (0..512).map(|i| [u32::from(at(i)), 1]).collect();
     let mut lines = vec![line; 5];
-    lines[0] = trigger;
+    lines[0] = vec![[1, 512]];
     plan_words(&lines)
 }
 
@@ -105,7 +110,7 @@ const FOUR_NAMES: [[u32; 2]; 4] = [[1, 1], [2, 1], [3, 1], [4, 1]];
 pub fn deepest() -> (Vec<u32>, Vec<u32>) {
     let mut draft = Draft::new(Kind::Book, vec![vec![[1, N, 3]; 2]; 5]);
     draft.rule([0, 1], vec![alternative(&FOUR_NAMES, &[&[0, 4, 1, 4, LAST, N]])]);
-    (draft.words(), four_names(vec![[1, 1]], |i| i == 511))
+    (draft.words(), four_names(|i| i == 511))
 }
 
 /// Four names with tokens first and last on full lines. The last may stand
@@ -118,7 +123,7 @@ pub fn deepest_sheet() -> (Vec<u32>, Vec<u32>) {
     draft.rule([0, 1], vec![alternative(&FOUR_NAMES, &[&[0, 4, 1 << 0 | 1 << 12]])]);
     let last: &[u32] = &[0, 1, 1 << 12];
     draft.rule([0, 1], vec![alternative(&FOUR_NAMES, &[last; 8])]);
-    (draft.words(), four_names(vec![[1, 512]], |i| i == 0 || i == 511))
+    (draft.words(), four_names(|i| i == 0 || i == 511))
 }
 
 /// A sheet whose translation has 16,384 words and 888 alternatives.

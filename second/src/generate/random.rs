@@ -1,6 +1,6 @@
 //! Random sound books and sheets, with plans that nearly fit.
 
-use super::draft::{AlternativeDraft, Draft, Lines, NO_TRIGGER};
+use super::draft::{end, AlternativeDraft, Draft, Lines, NO_TRIGGER};
 use super::rng::Rng;
 use crate::layout::{Kind, LAST, N};
 use crate::placed::Span;
@@ -40,13 +40,17 @@ pub const LARGE: Size = Size {
     tries: 300_000,
 };
 
-/// A draft and a plan for it.
+/// A draft and a plan for it, whose lines mostly end together.
 pub fn pair(rng: &mut Rng, kind: Kind, size: Size) -> (Draft, Lines) {
     let mut draft = Draft::new(kind, variables(rng, size));
     let mut lines: Lines = draft.variables.iter().map(|v| line(rng, v, size.tokens)).collect();
     // The words of a plan are limited too.
     while lines.iter().map(Vec::len).sum::<usize>() > 8_000 {
         lines.iter_mut().for_each(|l| l.truncate(l.len() / 2));
+    }
+    let together = rng.percent(85);
+    if together {
+        level(rng, &mut draft.variables, &mut lines);
     }
     let spans = spans(&lines);
     for _ in 0..rng.from(0, size.rules) {
@@ -58,8 +62,36 @@ pub fn pair(rng: &mut Rng, kind: Kind, size: Size) -> (Draft, Lines) {
     }
     while tries(&draft, &lines) > size.tries {
         lines.iter_mut().for_each(|l| l.truncate(l.len() / 2));
+        if together {
+            level(rng, &mut draft.variables, &mut lines);
+        }
     }
     (draft, lines)
+}
+
+/// Makes the lines end together. In a line that ends early one token gets
+/// longer: one whose value allows it, else the last, whose value then allows
+/// it. A line without tokens gets one, unless there are none at all.
+fn level(rng: &mut Rng, variables: &mut [Vec<[u32; 3]>], lines: &mut Lines) {
+    if lines.iter().all(Vec::is_empty) {
+        return;
+    }
+    for (values, line) in variables.iter().zip(lines.iter_mut()).filter(|(_, l)| l.is_empty()) {
+        let value = rng.index(values.len());
+        line.push([value as u32, values[value][0]]);
+    }
+    let latest = lines.iter().map(|line| end(line)).max().unwrap_or(0);
+    for (values, line) in variables.iter_mut().zip(lines) {
+        let missing = latest - end(line);
+        let greatest = |[value, _]: [u32; 2]| values[value as usize][1];
+        let can: Vec<usize> =
+            (0..line.len()).filter(|&i| line[i][1] + missing <= greatest(line[i])).collect();
+        let at = if can.is_empty() { line.len() - 1 } else { rng.pick(&can) };
+        let [value, duration] = &mut line[at];
+        *duration += missing;
+        let greatest = &mut values[*value as usize][1];
+        *greatest = (*greatest).max(*duration);
+    }
 }
 
 fn variables(rng: &mut Rng, size: Size) -> Vec<Vec<[u32; 3]>> {

@@ -3,7 +3,7 @@
 //! it fail, each in its own way, so that every trigger token has all of them
 //! looked at. Line 0 has the triggers, lines 1 to 4 the names' tokens.
 
-use super::draft::{plan_words, AlternativeDraft, Draft, Lines};
+use super::draft::{end_together, plan_words, AlternativeDraft, Draft, Lines};
 use crate::layout::{Kind, LAST, MAX_ALTERNATIVES, N};
 
 pub struct Slow {
@@ -130,12 +130,13 @@ fn far_off(kind: Kind, tokens: usize) -> (Vec<u32>, Vec<u32>) {
     (full(kind, &AlternativeDraft { names: names(2), tests }), plan_words(&lines))
 }
 
-/// One rule of one alternative, and one trigger token.
+/// One rule of one alternative, and one trigger token as long as the plan.
 fn one(n: u32, tests: Vec<Vec<u32>>, tokens: usize) -> (Vec<u32>, Vec<u32>) {
     let mut draft = Draft::new(Kind::Sheet, vec![vec![[1, N, 3]; 2]; 5]);
     draft.rule([0, 0], vec![AlternativeDraft { names: names(n), tests }]);
     let mut lines: Lines = vec![vec![[0, 10]; tokens]; 5];
     lines[0].truncate(1);
+    end_together(&mut lines);
     (draft.words(), plan_words(&lines))
 }
 

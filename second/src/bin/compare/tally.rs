@@ -63,7 +63,7 @@ impl Tally {
         print!("{:>8}", "answer");
         DOORS.iter().for_each(|(_, name)| print!("{name:>13}"));
         println!("{:>13}", "all");
-        for number in 0..=17 {
+        for number in 0..=18 {
             print!("{number:>8}");
             let counts = DOORS.map(|(door, _)| self.of(door, number));
             counts.iter().for_each(|count| print!("{count:>13}"));
@@ -89,8 +89,8 @@ impl Tally {
 
     /// The answers that can be given and never were.
     pub fn missing(&self) -> Vec<String> {
-        let judged: Vec<u32> = (0..=12).collect();
-        let opened: Vec<u32> = (0..=11).chain([17]).collect();
+        let judged: Vec<u32> = (0..=12).chain([18]).collect();
+        let opened: Vec<u32> = (0..=11).chain([17, 18]).collect();
         let mut missing = Vec::new();
         for (door, name) in DOORS {
             let (numbers, faults): (&[u32], &[u32]) = match door {
