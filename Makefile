@@ -2,6 +2,9 @@
 PREFIX ?= /usr/local
 to = $(DESTDIR)$(abspath $(PREFIX))
 
+# the crates with exported functions, each built by itself; the library holds them all
+parts = front front_narrow
+
 .PHONY: demo test check lib programs install bench stack believed
 
 demo: programs
@@ -16,9 +19,10 @@ check:
 
 # the static library for C and Rust, with include/tteokbiran.h
 lib:
-	rt staticlib front
-	mkdir -p target/lib
-	cp target/staticlib/libfront.a target/lib/libtteokbiran.a
+	for part in $(parts); do rt staticlib $$part || exit 1; done
+	rm -rf target/lib && mkdir -p target/lib/objects
+	for part in $(parts); do (cd target/lib/objects && ar x ../../staticlib/lib$$part.a) || exit 1; done
+	ar rcs target/lib/libtteokbiran.a target/lib/objects/*.o
 
 programs:
 	rt check judge translate

@@ -2,11 +2,11 @@
  *
  * A run of bytes or words is lent as a pointer and then its count of elements. What is proved holds if the caller keeps these terms,
  * which nothing here can check:
- *   - a run's pointer points to as many elements as its count says, aligned for their type, readable (room: writable too), and changed
+ *   - a run's pointer points to as many elements as its count says, aligned for their type, readable (room, table: writable too), and changed
  *     by nobody else during the call; with a count of 0 it may be any pointer, also NULL;
  *   - every other pointer (number, a, b; token of open; token, start, value and end of step) points to a writable number of its type,
  *     aligned; in one call no two of them overlap, and none lies in a run that is lent;
- *   - room overlaps no other run. Runs that are only read may overlap each other.
+ *   - room, or table, overlaps no other run. Runs that are only read may overlap each other.
  * What number, a, b, value and end held before the call doesn't matter. No function keeps a pointer, uses the heap, or writes to
  * anything that isn't named here. Calls from several threads don't disturb each other.
  */
@@ -38,6 +38,13 @@ void tteokbiran_judge_sheet(const uint8_t *sheet, size_t sheet_len, const uint8_
  * the words behind them are as they were. On a refusal all of room is. */
 void tteokbiran_translate(const uint8_t *sheet, size_t sheet_len, uint32_t *room, size_t room_len, uint32_t *number, uint32_t *a,
                           uint32_t *b);
+
+/* What the constraints of an alternative of a sheet, numbered over the whole of table 3, leave for every two of its tokens: sets of the
+ * relations 0 to 12, one word each, by left token, then right, the trigger first if the rule has one. So table holds n x n words for n
+ * tokens, at most 25. Answers 1 to 4 for the sheet, 27 for an alternative that it hasn't got, 25 for a table that is too short, else 0;
+ * none but 2 and 4 has a place. The words behind the table are as they were; on a refusal all of table is. */
+void tteokbiran_narrow(const uint8_t *sheet, size_t sheet_len, uint32_t alternative, uint32_t *table, size_t table_len, uint32_t *number,
+                       uint32_t *a, uint32_t *b);
 
 /* Opens a reader over timeline `line` of a plan, here as words. Answers 1 to 11, then 17 for a timeline that isn't there, else 0, as three
  * numbers. *token becomes the token number of the position to read from: 0, or 4,294,967,295 on a refusal, which names no token. The

@@ -4,6 +4,7 @@
 pub mod decode;
 pub mod generate;
 pub mod layout;
+pub mod narrow;
 pub mod placed;
 pub mod plan;
 pub mod reader;
@@ -17,6 +18,7 @@ pub mod words;
 mod tests;
 
 pub use layout::Answer;
+pub use narrow::narrow;
 pub use reader::{step, Position, Seen};
 pub use translate::translate;
 
@@ -72,6 +74,10 @@ pub mod bytes {
 
     pub fn translate(sheet: &[u8], room: &mut [u32]) -> Answer {
         super::translate(&from_bytes(sheet), room)
+    }
+
+    pub fn narrow(sheet: &[u8], alternative: u32, table: &mut [u32]) -> Answer {
+        super::narrow(&from_bytes(sheet), alternative, table)
     }
 
     pub fn open_reader(book: &[u8], plan: &[u8], line: u32) -> (Answer, u32, u32) {

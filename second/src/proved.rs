@@ -56,6 +56,16 @@ mod calls {
             a: *mut u32,
             b: *mut u32,
         );
+        fn tteokbiran_narrow(
+            sheet: *const u8,
+            sheet_len: usize,
+            alternative: u32,
+            table: *mut u32,
+            table_len: usize,
+            number: *mut u32,
+            a: *mut u32,
+            b: *mut u32,
+        );
         fn tteokbiran_open(
             book: *const u32,
             book_len: usize,
@@ -128,6 +138,23 @@ mod calls {
         [number, a, b]
     }
 
+    pub fn narrow(sheet: &[u8], alternative: u32, table: &mut [u32]) -> Answer {
+        let [mut number, mut a, mut b] = [UNSET; 3];
+        unsafe {
+            tteokbiran_narrow(
+                sheet.as_ptr(),
+                sheet.len(),
+                alternative,
+                table.as_mut_ptr(),
+                table.len(),
+                &mut number,
+                &mut a,
+                &mut b,
+            );
+        }
+        [number, a, b]
+    }
+
     /// The answer, and the token number that the reader stands at.
     pub fn open(book: &[u32], plan: &[u32], line: u32) -> (Answer, u32) {
         let [mut number, mut a, mut b, mut token] = [UNSET; 4];
@@ -168,7 +195,7 @@ mod calls {
 #[cfg(feature = "mock")]
 mod calls {
     use super::*;
-    pub use second::bytes::{judge, judge_sheet, translate};
+    pub use second::bytes::{judge, judge_sheet, narrow, translate};
 
     pub fn open(book: &[u32], plan: &[u32], line: u32) -> (Answer, u32) {
         let (answer, token, _) = second::open_reader(book, plan, line);
@@ -180,7 +207,7 @@ mod calls {
     }
 }
 
-pub use calls::{judge, judge_sheet, open, step, translate};
+pub use calls::{judge, judge_sheet, narrow, open, step, translate};
 
 /// The second judge's step in the same form.
 pub fn expected(step: Option<(second::Seen, Position)>, at: Position) -> Step {

@@ -34,9 +34,9 @@ pub fn relation<T: Ord>(left: (T, T), right: (T, T)) -> u32 {
 }
 
 pub struct Constraint {
-    left: usize,
-    right: usize,
-    set: u32,
+    pub left: usize,
+    pub right: usize,
+    pub set: u32,
 }
 
 impl Test for Constraint {

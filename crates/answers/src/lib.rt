@@ -23,6 +23,8 @@ pub enum Answer {
     RoomTooShort { words: u32 },
     NoSuchTimeline,
     EndsApart { timeline: u32 },
+    NoSuchAlternative,
+    TableTooShort,
 }
 
 // The three numbers that an answer is shown as.
@@ -62,5 +64,7 @@ pub fn numbers_of(r: Answer) -> Numbers
         Answer::RoomTooShort { words } => row(15, words, 0),
         Answer::NoSuchTimeline => row(17, 0, 0),
         Answer::EndsApart { timeline } => row(18, timeline, 0),
+        Answer::NoSuchAlternative => row(27, 0, 0),
+        Answer::TableTooShort => row(25, 0, 0),
     }
 }

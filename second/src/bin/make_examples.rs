@@ -1,13 +1,14 @@
 //! Writes the example folders. make-examples <folder>
 //!
 //! Each has the input files, `line` with the line of numbers that judging them
-//! gives, and `what.txt` with what it shows.
+//! gives, and `what.txt` with what it shows. Those of narrowing have `ask`, the
+//! alternative and the words of the table, and `leaves`, what is printed.
 
 use second::generate::load;
-use second::layout::Answer;
+use second::layout::{Answer, N};
 use second::specimens::{with, E, E_SHEET, P1, P2};
 use second::words::to_bytes;
-use second::{judge, judge_sheet};
+use second::{judge, judge_sheet, narrow};
 use std::path::Path;
 use std::{fs, io, process};
 
@@ -183,6 +184,64 @@ fn write(root: &Path, example: &Example) -> io::Result<()> {
     fs::write(folder.join("what.txt"), format!("{}\n", example.what))
 }
 
+struct Narrowed {
+    folder: &'static str,
+    sheet: Vec<u32>,
+    alternative: u32,
+    room: usize,
+    leaves: &'static str,
+    what: &'static str,
+}
+
+fn narrowed() -> Vec<Narrowed> {
+    let before = vec![
+        2, 39, 1, 14, 1, 16, 1, 19, 1, 23, 3, 27, 2, 33, 0, 1, 1, N, 1, N, 0, 0, 1, 0, 3, 0, 2, 0,
+        0, 0, 0, 0, 0, 1, 2, 1, 2, 3, 1,
+    ];
+    vec![
+        Narrowed {
+            folder: "follows",
+            sheet: before,
+            alternative: 0,
+            room: 10,
+            leaves: "0 0 0\n64 1 1 4096 64 1 4096 4096 64 9\n",
+            what: "Name 1 is before 2 and 2 before 3: that 1 is before 3 follows. \
+                   The word behind the table of nine stays.",
+        },
+        Narrowed {
+            folder: "fault-25",
+            sheet: E_SHEET.to_vec(),
+            alternative: 0,
+            room: 3,
+            leaves: "25 0 0\n9 9 9\n",
+            what: "The alternative has two tokens, and the table lent for them three words, \
+                   one too few. They stay.",
+        },
+        Narrowed {
+            folder: "fault-27",
+            sheet: E_SHEET.to_vec(),
+            alternative: 1,
+            room: 4,
+            leaves: "27 0 0\n9 9 9 9\n",
+            what: "The sheet has one alternative, number 0, and number 1 was asked for.",
+        },
+    ]
+}
+
+fn write_narrowed(root: &Path, example: &Narrowed) -> io::Result<()> {
+    let mut table = vec![9; example.room];
+    let [number, a, b] = narrow(&example.sheet, example.alternative, &mut table);
+    let words: Vec<String> = table.iter().map(u32::to_string).collect();
+    let leaves = format!("{number} {a} {b}\n{}\n", words.join(" "));
+    assert_eq!(leaves, example.leaves, "{}", example.folder);
+    let folder = root.join(example.folder);
+    fs::create_dir_all(&folder)?;
+    fs::write(folder.join("sheet.bin"), to_bytes(&example.sheet))?;
+    fs::write(folder.join("ask"), format!("{} {}\n", example.alternative, example.room))?;
+    fs::write(folder.join("leaves"), leaves)?;
+    fs::write(folder.join("what.txt"), format!("{}\n", example.what))
+}
+
 fn main() {
     let Some(root) = std::env::args_os().nth(1) else {
         eprintln!("usage: make-examples <folder>");
@@ -193,6 +252,12 @@ fn main() {
         let answer = judge(&example.book, &example.plan);
         assert_eq!(answer, example.expected, "{}", example.folder);
         if let Err(error) = write(Path::new(&root), &example) {
+            eprintln!("{}: {error}", example.folder);
+            process::exit(1);
+        }
+    }
+    for example in narrowed() {
+        if let Err(error) = write_narrowed(Path::new(&root), &example) {
             eprintln!("{}: {error}", example.folder);
             process::exit(1);
         }

@@ -104,6 +104,20 @@ impl Both {
         (self.note(Door::Translate, second, sheet), by_second)
     }
 
+    /// Also compares the whole tables.
+    pub fn narrow(&mut self, sheet: &[u8], alternative: u32, words: usize) -> (Answer, Vec<u32>) {
+        let (mut by_proved, mut by_second) = (room(words), room(words));
+        let proved = proved::narrow(sheet, alternative, &mut by_proved);
+        let second = bytes::narrow(sheet, alternative, &mut by_second);
+        let what = format!("narrow of alternative {alternative} with a table of {words} words");
+        self.same(&what, &proved, &second, &[("sheet", sheet)]);
+        self.same(&format!("the table of {what}"), &by_proved, &by_second, &[("sheet", sheet)]);
+        if second[0] != 0 {
+            self.expect("the table refused", &by_proved, &room(words), &[("sheet", sheet)]);
+        }
+        (self.note(Door::Narrow, second, sheet), by_second)
+    }
+
     pub fn step(&mut self, plan: &[u8], at: Position) -> Option<Position> {
         let second = bytes::step(plan, at);
         let expected = proved::expected(second, at);

@@ -1,15 +1,15 @@
 //! The kinds of cases.
 
 use crate::both::Both;
-use second::generate::draft::plan_words;
+use second::generate::draft::{plan_words, AlternativeDraft, Draft, NO_TRIGGER};
 use second::generate::random::{pair, Size, LARGE, MEDIUM, SMALL};
 use second::generate::rng::Rng;
 use second::generate::slow::{Slow, BOTH, SHEETS};
 use second::generate::{damage, extreme};
 use second::layout::{Kind, LAST, N};
 use second::specimens::{self, Call, E, E_SHEET, P1, P2};
-use second::words::to_bytes;
-use second::Position;
+use second::words::{from_bytes, to_bytes};
+use second::{narrow, Position};
 
 /// The law's specimens. Both have to give the line that stands in the law.
 pub fn specimens(both: &mut Both) -> u64 {
@@ -27,6 +27,22 @@ pub fn specimens(both: &mut Both) -> u64 {
         number += 1;
     }
     number
+}
+
+/// The law's specimens of narrowing, tables and all.
+pub fn narrowings(both: &mut Both) -> u64 {
+    let list = narrow::specimens();
+    for specimen in &list {
+        both.case = format!("specimen {}", specimen.name);
+        let sheet = to_bytes(&specimen.sheet);
+        let (answer, table) = both.narrow(&sheet, specimen.alternative, specimen.room);
+        let written = &table[..specimen.written.len()];
+        both.expect("what the law expects", &answer, &specimen.answer, &[]);
+        both.expect("the table that it expects", &written, &&specimen.written[..], &[]);
+        let [n, a, b] = answer;
+        println!("specimen {}: {n} {a} {b}", specimen.name);
+    }
+    list.len() as u64
 }
 
 /// Every word of some inputs in turn, replaced by every edge.
@@ -49,6 +65,7 @@ pub fn every_place(both: &mut Both, cases: u64) -> u64 {
     each(&E_SHEET, &mut |both, sheet| {
         both.judge_sheet(sheet, &p2);
         both.translate(sheet, 16_384);
+        both.narrow(sheet, 0, 5);
     });
     let (e, e_sheet) = (to_bytes(&E), to_bytes(&E_SHEET));
     for plan in [&P1[..], &P2[..]] {
@@ -124,11 +141,53 @@ fn ask(both: &mut Both, rng: &mut Rng, kind: Kind, words: &[u8], plan: &[u8]) {
                     &[("sheet", words), ("plan", plan)],
                 );
             }
+            if rng.percent(50) {
+                narrow_some(both, rng, words);
+            }
             let needed = answer[1] as usize;
             if answer[0] == 0 && rng.percent(50) {
                 both.translate(words, rng.pick(&[0, 1, needed - 1, needed, needed + 1]));
             }
         }
+    }
+}
+
+/// Some alternative of a sheet, mostly one that it has, and a table that is
+/// mostly long enough.
+fn narrow_some(both: &mut Both, rng: &mut Rng, sheet: &[u8]) {
+    let count = from_bytes(sheet).get(8).copied().unwrap_or(0);
+    let alternative = match rng.below(20) {
+        0 => count,
+        1 => rng.pick(&[count.wrapping_add(1), N, N - 1, HALF]),
+        _ => rng.below(count.clamp(1, 1_024)),
+    };
+    both.narrow(sheet, alternative, rng.pick(&[0, 1, 3, 4, 8, 9, 15, 16, 24, 25, 25, 26, 30]));
+}
+
+/// A sheet whose alternatives have many constraints between few tokens.
+fn networks(both: &mut Both, rng: &mut Rng) {
+    let mut draft = Draft::new(Kind::Sheet, vec![vec![[1, N, 1]]]);
+    for _ in 0..rng.from(1, 3) {
+        let trigger = if rng.percent(30) { NO_TRIGGER } else { [0, 0] };
+        let first = u32::from(trigger == NO_TRIGGER);
+        let mut alternatives = Vec::new();
+        for _ in 0..rng.from(1, 3) {
+            let names = rng.from(0, 4);
+            let mut tests = Vec::new();
+            for _ in 0..if names < first { 0 } else { rng.from(0, 8) } {
+                let mut token = || rng.from(first, names);
+                let (left, right) = (token(), token());
+                let few = rng.word() & rng.word() & if rng.percent(50) { rng.word() } else { N };
+                let set = (few | 1 << rng.below(13)) & 8191;
+                tests.push(vec![left, right, set]);
+            }
+            alternatives.push(AlternativeDraft { names: vec![[0, 0]; names as usize], tests });
+        }
+        draft.rule(trigger, alternatives);
+    }
+    let sheet = to_bytes(&draft.words());
+    for _ in 0..4 {
+        narrow_some(both, rng, &sheet);
     }
 }
 
@@ -146,6 +205,7 @@ pub fn random(both: &mut Both, rng: &mut Rng) {
     match rng.below(1000) {
         0..=29 => return extremes(both, rng, kind),
         30..=89 => return steps(both, rng),
+        90..=129 => return networks(both, rng),
         _ => (),
     }
     let size = size(rng);

@@ -37,7 +37,7 @@ fn main() {
     let mut specimens = 0;
     println!("{} against the second judge, seed {seed}", proved::NAME);
     if first.is_none() {
-        specimens = cases::specimens(&mut both);
+        specimens = cases::specimens(&mut both) + cases::narrowings(&mut both);
         made += cases::every_place(&mut both, 400);
         made += cases::busy(&mut both);
     }

@@ -8,14 +8,16 @@ pub enum Door {
     Judge,
     JudgeSheet,
     Translate,
+    Narrow,
     Open,
     Step,
 }
 
-pub const DOORS: [(Door, &str); 5] = [
+pub const DOORS: [(Door, &str); 6] = [
     (Door::Judge, "judge"),
     (Door::JudgeSheet, "judge sheet"),
     (Door::Translate, "translate"),
+    (Door::Narrow, "narrow"),
     (Door::Open, "open"),
     (Door::Step, "step"),
 ];
@@ -63,7 +65,7 @@ impl Tally {
         print!("{:>8}", "answer");
         DOORS.iter().for_each(|(_, name)| print!("{name:>13}"));
         println!("{:>13}", "all");
-        for number in 0..=18 {
+        for number in (0..=18).chain([25, 27]) {
             print!("{number:>8}");
             let counts = DOORS.map(|(door, _)| self.of(door, number));
             counts.iter().for_each(|count| print!("{count:>13}"));
@@ -97,6 +99,7 @@ impl Tally {
                 Door::Judge | Door::JudgeSheet => (&judged, &[2, 4, 6]),
                 Door::Open => (&opened, &[2, 4, 6]),
                 Door::Translate => (&[0, 1, 2, 3, 4, 13, 14, 15], &[2, 4, 14]),
+                Door::Narrow => (&[0, 1, 2, 3, 4, 25, 27], &[2, 4]),
                 Door::Step => (&[0, 1], &[]),
             };
             for &number in numbers {
