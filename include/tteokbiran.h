@@ -2,11 +2,11 @@
  *
  * A run of bytes or words is lent as a pointer and then its count of elements. What is proved holds if the caller keeps these terms,
  * which nothing here can check:
- *   - a run's pointer points to as many elements as its count says, aligned for their type, readable (room, table: writable too), and changed
- *     by nobody else during the call; with a count of 0 it may be any pointer, also NULL;
+ *   - a run's pointer points to as many elements as its count says, aligned for their type, readable (room, table, times: writable too), and
+ *     changed by nobody else during the call; with a count of 0 it may be any pointer, also NULL;
  *   - every other pointer (number, a, b; token of open; token, start, value and end of step) points to a writable number of its type,
  *     aligned; in one call no two of them overlap, and none lies in a run that is lent;
- *   - room, or table, overlaps no other run. Runs that are only read may overlap each other.
+ *   - room, table or times overlaps no other run. Runs that are only read may overlap each other.
  * What number, a, b, value and end held before the call doesn't matter. No function keeps a pointer, uses the heap, or writes to
  * anything that isn't named here. Calls from several threads don't disturb each other.
  */
@@ -45,6 +45,13 @@ void tteokbiran_translate(const uint8_t *sheet, size_t sheet_len, uint32_t *room
  * none but 2 and 4 has a place. The words behind the table are as they were; on a refusal all of table is. */
 void tteokbiran_narrow(const uint8_t *sheet, size_t sheet_len, uint32_t alternative, uint32_t *table, size_t table_len, uint32_t *number,
                        uint32_t *a, uint32_t *b);
+
+/* Whether alternative number `alternative`, counted over all rules of the book, could be met on any day. Answers 1 to 4, then 27 for a
+ * number that the book hasn't got; then 0 with a = 1 for yes, or a = 0 for no. With yes the earliest times stand at the start of times: start
+ * and end of the trigger, if the rule has one, start and end of each name in order, and the plan's end last. They are at most 11, so 11 numbers
+ * are room enough; fewer get as many of them as they hold. The numbers behind those shown, and on any other answer all, are as they were. */
+void tteokbiran_earliest(const uint8_t *book, size_t book_len, uint32_t alternative, uint64_t *times, size_t times_len, uint32_t *number,
+                         uint32_t *a, uint32_t *b);
 
 /* Opens a reader over timeline `line` of a plan, here as words. Answers 1 to 11, then 17 for a timeline that isn't there, else 0, as three
  * numbers. *token becomes the token number of the position to read from: 0, or 4,294,967,295 on a refusal, which names no token. The

@@ -19,13 +19,18 @@ static uint8_t book[MOST], sheet[MOST], plan[MOST];
 static uint32_t book_words[MOST / 4], plan_words[MOST / 4], room[16384];
 static size_t book_len, sheet_len, plan_len;
 static uint32_t number, a, b, token, value;
-static uint64_t start, end;
+static uint32_t table[25];
+static uint64_t start, end, times[11];
 
 static void judge(void) { tteokbiran_judge(book, book_len, plan, plan_len, &number, &a, &b); }
 
 static void judge_sheet(void) { tteokbiran_judge_sheet(sheet, sheet_len, plan, plan_len, &number, &a, &b); }
 
 static void translate(void) { tteokbiran_translate(sheet, sheet_len, room, 16384, &number, &a, &b); }
+
+static void narrow(void) { tteokbiran_narrow(sheet, sheet_len, 0, table, 25, &number, &a, &b); }
+
+static void earliest(void) { tteokbiran_earliest(book, book_len, 0, times, 11, &number, &a, &b); }
 
 static void open_last(void) {
     tteokbiran_open(book_words, book_len / 4, plan_words, plan_len / 4, plan_words[2] - 1, &number, &a, &b, &token);
@@ -45,7 +50,8 @@ static struct {
     const char *where;
 } functions[] = {
     {"tteokbiran_judge", judge, 0, ""},   {"tteokbiran_judge_sheet", judge_sheet, 0, ""}, {"tteokbiran_translate", translate, 0, ""},
-    {"tteokbiran_open", open_last, 0, ""}, {"tteokbiran_step", step_all, 0, ""},
+    {"tteokbiran_narrow", narrow, 0, ""}, {"tteokbiran_earliest", earliest, 0, ""},       {"tteokbiran_open", open_last, 0, ""},
+    {"tteokbiran_step", step_all, 0, ""},
 };
 
 static size_t slurp(const char *folder, const char *name, uint8_t *bytes) {

@@ -2,6 +2,7 @@
 //! means than the proved one, to compare the two.
 
 pub mod decode;
+pub mod earliest;
 pub mod generate;
 pub mod layout;
 pub mod narrow;
@@ -17,6 +18,7 @@ pub mod words;
 #[cfg(test)]
 mod tests;
 
+pub use earliest::earliest;
 pub use layout::Answer;
 pub use narrow::narrow;
 pub use reader::{step, Position, Seen};
@@ -78,6 +80,10 @@ pub mod bytes {
 
     pub fn narrow(sheet: &[u8], alternative: u32, table: &mut [u32]) -> Answer {
         super::narrow(&from_bytes(sheet), alternative, table)
+    }
+
+    pub fn earliest(book: &[u8], alternative: u32, room: &mut [u64]) -> Answer {
+        super::earliest(&from_bytes(book), alternative, room)
     }
 
     pub fn open_reader(book: &[u8], plan: &[u8], line: u32) -> (Answer, u32, u32) {

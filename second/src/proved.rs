@@ -66,6 +66,16 @@ mod calls {
             a: *mut u32,
             b: *mut u32,
         );
+        fn tteokbiran_earliest(
+            book: *const u8,
+            book_len: usize,
+            alternative: u32,
+            times: *mut u64,
+            times_len: usize,
+            number: *mut u32,
+            a: *mut u32,
+            b: *mut u32,
+        );
         fn tteokbiran_open(
             book: *const u32,
             book_len: usize,
@@ -155,6 +165,23 @@ mod calls {
         [number, a, b]
     }
 
+    pub fn earliest(book: &[u8], alternative: u32, times: &mut [u64]) -> Answer {
+        let [mut number, mut a, mut b] = [UNSET; 3];
+        unsafe {
+            tteokbiran_earliest(
+                book.as_ptr(),
+                book.len(),
+                alternative,
+                times.as_mut_ptr(),
+                times.len(),
+                &mut number,
+                &mut a,
+                &mut b,
+            );
+        }
+        [number, a, b]
+    }
+
     /// The answer, and the token number that the reader stands at.
     pub fn open(book: &[u32], plan: &[u32], line: u32) -> (Answer, u32) {
         let [mut number, mut a, mut b, mut token] = [UNSET; 4];
@@ -195,7 +222,7 @@ mod calls {
 #[cfg(feature = "mock")]
 mod calls {
     use super::*;
-    pub use second::bytes::{judge, judge_sheet, narrow, translate};
+    pub use second::bytes::{earliest, judge, judge_sheet, narrow, translate};
 
     pub fn open(book: &[u32], plan: &[u32], line: u32) -> (Answer, u32) {
         let (answer, token, _) = second::open_reader(book, plan, line);
@@ -207,7 +234,7 @@ mod calls {
     }
 }
 
-pub use calls::{judge, judge_sheet, narrow, open, step, translate};
+pub use calls::{earliest, judge, judge_sheet, narrow, open, step, translate};
 
 /// The second judge's step in the same form.
 pub fn expected(step: Option<(second::Seen, Position)>, at: Position) -> Step {

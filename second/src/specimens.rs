@@ -2,13 +2,15 @@
 //! the traps it names.
 
 use crate::generate::draft::{alternative, plan_words, AlternativeDraft, Draft, NO_TRIGGER};
-use crate::layout::{Answer, Kind, N};
+use crate::layout::{Answer, Kind, LAST, N};
 
 pub enum Call {
     Judge(Vec<u32>, Vec<u32>),
     JudgeSheet(Vec<u32>, Vec<u32>),
     /// A sheet and the words of room.
     Translate(Vec<u32>, usize),
+    /// A book, an alternative's number, and the times that are shown.
+    Earliest(Vec<u32>, u32, Vec<u64>),
 }
 
 pub struct Specimen {
@@ -84,6 +86,7 @@ pub fn all() -> Vec<Specimen> {
     let mut list = from_the_law();
     list.extend(traps());
     list.extend(ends());
+    list.extend(earliest());
     list
 }
 
@@ -189,6 +192,48 @@ fn ends() -> Vec<Specimen> {
         ("line 1 ends earlier", e(vec![vec![[0, 5]], vec![[0, 4]]]), [18, 1, 0]),
         ("both end at 5", e(vec![vec![[0, 5]]; 2]), [0, 0, 0]),
         ("18 for a sheet", Call::JudgeSheet(E_SHEET.to_vec(), only_line_0), [18, 1, 0]),
+    ]
+    .map(made)
+    .into()
+}
+
+/// The earliest times of one rule's first alternative, over one variable with
+/// one value that lasts `least` or more.
+fn earliest() -> Vec<Specimen> {
+    let first = |least, trigger, names: &[[u32; 2]], tests: &[&[u32]]| {
+        let mut draft = Draft::new(Kind::Book, vec![vec![[least, N, 1]]]);
+        draft.rule(trigger, vec![alternative(names, tests)]);
+        draft.words()
+    };
+    let shows = |book: Vec<u32>, times: &[u64]| Call::Earliest(book, 0, times.to_vec());
+    let free = |names: &[[u32; 2]], tests: &[&[u32]], times: &[u64]| {
+        shows(first(1, NO_TRIGGER, names, tests), times)
+    };
+    let one: &[[u32; 2]] = &[[0, 0]];
+    let far: [&[u32]; 3] = [&[1, 1, 0, 2, LAST, N], &[1, 2, 0, 3, LAST, N], &[1, 3, 0, 4, LAST, N]];
+    let tick = u64::from(LAST);
+    let day: Vec<u64> = [0, 1, 2, 3, 4, 5, 6, 7, 7].map(|n| n * tick).into();
+    let both: [&[u32]; 2] = [&[0, 1, 0, 2, 40, N], &[0, 1, 0, 2, 0, 30]];
+    let made = |(name, call, expected)| Specimen { name, call, expected };
+    [
+        ("earliest of E", shows(E.to_vec(), &[0, 5, 0, 5, 5]), [0, 1, 0]),
+        ("no second alternative in E", Call::Earliest(E.to_vec(), 1, vec![]), [27, 0, 0]),
+        ("two time points apart", free(&[], &[&[2, 10, 2, 5, 0, N]], &[]), [0, 0, 0]),
+        ("no tokens, the plan's end alone", free(&[], &[&[2, 5, 2, 10, 5, 5]], &[0]), [0, 1, 0]),
+        (
+            "a day after the last tick",
+            free(one, &[&[2, LAST, 0, 1, 5, N]], &[tick + 5, tick + 6, tick + 6]),
+            [0, 1, 0],
+        ),
+        ("6 before time point 5", free(one, &[&[0, 1, 2, 5, 6, N]], &[]), [0, 0, 0]),
+        ("a name that no atom speaks of", free(one, &[], &[0, 1, 1]), [0, 1, 0]),
+        ("at least 40 and at most 30", free(&[[0, 0]; 2], &both, &[]), [0, 0, 0]),
+        ("times over 32 bits", shows(first(LAST, NO_TRIGGER, &[[0, 0]; 4], &far), &day), [0, 1, 0]),
+        (
+            "a trigger pulled up",
+            shows(first(1, [0, 0], one, &[&[1, 1, 0, 0, 7, N]]), &[8, 9, 0, 1, 9]),
+            [0, 1, 0],
+        ),
     ]
     .map(made)
     .into()

@@ -5,7 +5,7 @@ use crate::generate::{extreme, load, slow};
 use crate::layout::{Kind, LAST, N};
 use crate::specimens::{all, with, Call, E, EMPTY_PLAN, E_SHEET, P1, P2};
 use crate::words::to_bytes;
-use crate::{bytes, judge, judge_sheet, open_reader, step, translate, Position, Seen};
+use crate::{bytes, earliest, judge, judge_sheet, open_reader, step, translate, Position, Seen};
 
 #[test]
 fn specimens_give_their_lines() {
@@ -14,6 +14,13 @@ fn specimens_give_their_lines() {
             Call::Judge(book, plan) => judge(book, plan),
             Call::JudgeSheet(sheet, plan) => judge_sheet(sheet, plan),
             Call::Translate(sheet, room) => translate(sheet, &mut vec![0; *room]),
+            Call::Earliest(book, number, times) => {
+                let mut room = [7; 11];
+                let answer = earliest(book, *number, &mut room);
+                assert_eq!(&room[..times.len()], &times[..], "{}", specimen.name);
+                assert_eq!(room[times.len()..], [7; 11][times.len()..], "{}", specimen.name);
+                answer
+            }
         };
         assert_eq!(answer, specimen.expected, "{}", specimen.name);
     }

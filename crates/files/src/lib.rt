@@ -94,3 +94,43 @@ pub fn translate(sheet: &[u8], book: &[u8], fresh: &[u8]) {
     }
     show(r);
 }
+
+// Prints the line of an alternative that no day could meet: its rule, and its number over all rules.
+fn show_hopeless(rule: u64, alternative: u64) {
+    io::write_all(STDOUT_FILENO, b"rule ");
+    io::print_decimal(STDOUT_FILENO, rule);
+    io::write_all(STDOUT_FILENO, b" alternative ");
+    io::print_decimal(STDOUT_FILENO, alternative);
+    io::write_all(STDOUT_FILENO, b"\n");
+}
+
+// The same for each alternative of a book, of which there are at most 1,024; of a book that is refused, the answer's line.
+fn list_hopeless(book: &[u32]) {
+    let mut times = [0u64; 11];
+    let mut alternative: u32 = 0;
+    while alternative < 1024 {
+        let r = earliest::earliest(book, alternative, &mut times);
+        let n = answers::numbers_of(r);
+        if n.number == 27 {
+            return;
+        }
+        if n.number != 0 {
+            show(r);
+            return;
+        }
+        if n.a == 0 {
+            let rule = earliest::rule_of(book, alternative as usize);
+            show_hopeless(rule as u64, alternative as u64);
+        }
+        alternative += 1;
+    }
+}
+
+// Prints a line for each alternative of a book, by its file's name, that no day could meet.
+pub fn forecast(book: &[u8]) {
+    let mut bytes = [0u8; 65540];
+    let n = slurp(book, &mut bytes);
+    let mut b = [0u32; 16384];
+    let m = words::load(&bytes[..n], &mut b);
+    list_hopeless(&b[..m]);
+}

@@ -3,12 +3,15 @@
 //! Each has the input files, `line` with the line of numbers that judging them
 //! gives, and `what.txt` with what it shows. Those of narrowing have `ask`, the
 //! alternative and the words of the table, and `leaves`, what is printed.
+//! times of an alternative: `alternative` has its number, `earliest` the line
+//! with the times behind it, and `forecast` what that program prints.
 
+use second::generate::draft::{alternative, plan_words, Draft, NO_TRIGGER};
 use second::generate::load;
-use second::layout::{Answer, N};
+use second::layout::{Answer, Kind, N};
 use second::specimens::{with, E, E_SHEET, P1, P2};
 use second::words::to_bytes;
-use second::{judge, judge_sheet, narrow};
+use second::{earliest, judge, judge_sheet, narrow};
 use std::path::Path;
 use std::{fs, io, process};
 
@@ -59,6 +62,36 @@ fn deepest() -> [Example; 2] {
                    the search in a sheet, and the translator, go as deep as they can.",
         },
     ]
+}
+
+/// An alternative asked for, with its line and what the forecast prints.
+struct Asked {
+    folder: &'static str,
+    alternative: u32,
+    line: &'static str,
+    forecast: &'static str,
+}
+
+const ASKED: [Asked; 3] = [
+    Asked { folder: "accepted", alternative: 0, line: "0 1 0 0 5 0 5 5", forecast: "" },
+    Asked { folder: "fault-27-book", alternative: 1, line: "27 0 0", forecast: "" },
+    Asked { folder: "hopeless", alternative: 0, line: "0 0 0", forecast: "rule 0 alternative 0\n" },
+];
+
+/// The second of two tokens starts at least 40 and at most 30 after the first.
+fn hopeless() -> Example {
+    let mut draft = Draft::new(Kind::Book, vec![vec![[1, N, 1]]]);
+    let both: [&[u32]; 2] = [&[0, 1, 0, 2, 40, N], &[0, 1, 0, 2, 0, 30]];
+    draft.rule(NO_TRIGGER, vec![alternative(&[[0, 0]; 2], &both)]);
+    Example {
+        folder: "hopeless",
+        sheet: false,
+        book: draft.words(),
+        plan: plan_words(&vec![vec![[0, 45], [0, 5]]]),
+        expected: [12, 0, 0],
+        what: "\"At least 40 after\" and \"at most 30 after\" in one alternative: no day could meet it, \
+               and the program forecast says so without any plan.",
+    }
 }
 
 /// The words with one more at the end, the total being right.
@@ -146,6 +179,13 @@ fn all() -> Vec<Example> {
             [18, 1, 0],
             "Timeline 1, the RIP's, ends at tick 35, but timeline 0, the decoder's, ends at 50.",
         ),
+        p2(
+            "fault-27-book",
+            E.to_vec(),
+            [0, 2, 0],
+            "The book has one alternative, number 0; asked for the times of number 1, the answer is 27 0 0.",
+        ),
+        hopeless(),
         sheet(
             "sheet",
             &P1,
@@ -242,6 +282,19 @@ fn write_narrowed(root: &Path, example: &Narrowed) -> io::Result<()> {
     fs::write(folder.join("what.txt"), format!("{}\n", example.what))
 }
 
+/// What is asked of the example's book, after its line was seen to be right.
+fn write_asked(root: &Path, example: &Example, asked: &Asked) -> io::Result<()> {
+    let mut times = [u64::MAX; 11];
+    let [number, a, b] = earliest(&example.book, asked.alternative, &mut times);
+    let mut line = format!("{number} {a} {b}");
+    times.iter().filter(|&&t| t != u64::MAX).for_each(|t| line += &format!(" {t}"));
+    assert_eq!(line, asked.line, "{}", asked.folder);
+    let folder = root.join(asked.folder);
+    fs::write(folder.join("alternative"), format!("{}\n", asked.alternative))?;
+    fs::write(folder.join("earliest"), format!("{line}\n"))?;
+    fs::write(folder.join("forecast"), asked.forecast)
+}
+
 fn main() {
     let Some(root) = std::env::args_os().nth(1) else {
         eprintln!("usage: make-examples <folder>");
@@ -251,7 +304,11 @@ fn main() {
         let judge = if example.sheet { judge_sheet } else { judge };
         let answer = judge(&example.book, &example.plan);
         assert_eq!(answer, example.expected, "{}", example.folder);
-        if let Err(error) = write(Path::new(&root), &example) {
+        let root = Path::new(&root);
+        let mut asked = ASKED.iter().filter(|asked| asked.folder == example.folder);
+        let done = write(root, &example)
+            .and_then(|()| asked.try_for_each(|asked| write_asked(root, &example, asked)));
+        if let Err(error) = done {
             eprintln!("{}: {error}", example.folder);
             process::exit(1);
         }

@@ -118,6 +118,21 @@ impl Both {
         (self.note(Door::Narrow, second, sheet), by_second)
     }
 
+    /// Also compares all the lent numbers, those behind the times too.
+    pub fn earliest(&mut self, book: &[u8], alternative: u32, room: usize) -> (Answer, Vec<u64>) {
+        let before: Vec<u64> = (0..room as u64).map(|i| 0xA5A5_0000_0000 ^ i).collect();
+        let (mut by_proved, mut by_second) = (before.clone(), before.clone());
+        let proved = proved::earliest(book, alternative, &mut by_proved);
+        let second = bytes::earliest(book, alternative, &mut by_second);
+        let what = format!("earliest of alternative {alternative} with room for {room} times");
+        self.same(&what, &proved, &second, &[("book", book)]);
+        self.same(&format!("the times of {what}"), &by_proved, &by_second, &[("book", book)]);
+        if second != [0, 1, 0] {
+            self.expect("the times without a yes", &by_proved, &before, &[("book", book)]);
+        }
+        (self.note(Door::Earliest, second, book), by_second)
+    }
+
     pub fn step(&mut self, plan: &[u8], at: Position) -> Option<Position> {
         let second = bytes::step(plan, at);
         let expected = proved::expected(second, at);

@@ -20,6 +20,16 @@ pub fn specimens(both: &mut Both) -> u64 {
             Call::Judge(book, plan) => both.judge(&to_bytes(book), &to_bytes(plan)),
             Call::JudgeSheet(sheet, plan) => both.judge_sheet(&to_bytes(sheet), &to_bytes(plan)),
             Call::Translate(sheet, room) => both.translate(&to_bytes(sheet), *room).0,
+            Call::Earliest(book, number, times) => {
+                let (answer, room) = both.earliest(&to_bytes(book), *number, 11);
+                both.expect(
+                    "the times that the law expects",
+                    &&room[..times.len()],
+                    &&times[..],
+                    &[],
+                );
+                answer
+            }
         };
         both.expect("what the law expects", &answer, &specimen.expected, &[]);
         let [n, a, b] = answer;
@@ -61,6 +71,7 @@ pub fn every_place(both: &mut Both, cases: u64) -> u64 {
     each(&E, &mut |both, book| {
         both.judge(book, &p1);
         both.read(book, &p2, 1, 5);
+        both.earliest(book, 0, 11);
     });
     each(&E_SHEET, &mut |both, sheet| {
         both.judge_sheet(sheet, &p2);
@@ -121,6 +132,10 @@ fn ask(both: &mut Both, rng: &mut Rng, kind: Kind, words: &[u8], plan: &[u8]) {
     match kind {
         Kind::Book => {
             both.judge(words, plan);
+            if rng.percent(50) {
+                let room = rng.pick(&[11, 11, 11, 12, 10, 5, 1, 0]);
+                both.earliest(words, rng.pick(&[0, 0, 0, 1, 1, 2, 3, 5, 1023, 1024, N]), room);
+            }
             if rng.percent(30) {
                 let line = rng.pick(&[0, 0, 0, 1, 1, 2, 3, 15, 16, N]);
                 // Each step is handed the whole plan, so long ones are mostly cut short.

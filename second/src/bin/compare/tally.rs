@@ -11,15 +11,17 @@ pub enum Door {
     Narrow,
     Open,
     Step,
+    Earliest,
 }
 
-pub const DOORS: [(Door, &str); 6] = [
+pub const DOORS: [(Door, &str); 7] = [
     (Door::Judge, "judge"),
     (Door::JudgeSheet, "judge sheet"),
     (Door::Translate, "translate"),
     (Door::Narrow, "narrow"),
     (Door::Open, "open"),
     (Door::Step, "step"),
+    (Door::Earliest, "earliest"),
 ];
 
 /// Tables whose records may be good and yet not use up the next table.
@@ -47,6 +49,8 @@ impl Tally {
         *self.numbers.entry((door, number)).or_default() += 1;
         let place = match number {
             2 | 14 => a,
+            // Yes or no.
+            0 if door == Door::Earliest => a,
             4 if RANGES.contains(&a) && count(a) == Some(b) => a + LEFT_OVER,
             4 => a,
             // Word 3 stands for the first tokens, word 4 for the counts.
@@ -76,6 +80,7 @@ impl Tally {
         self.print_places(4, "fault 4 by table");
         self.print_places(6, "fault 6 by word; 3 is any first token, 4 any count");
         self.print_places(14, "fault 14 by table");
+        self.print_places(0, "earliest: 0 is no, 1 is yes");
     }
 
     /// How often a fault was at each place, over all doors.
@@ -101,6 +106,7 @@ impl Tally {
                 Door::Translate => (&[0, 1, 2, 3, 4, 13, 14, 15], &[2, 4, 14]),
                 Door::Narrow => (&[0, 1, 2, 3, 4, 25, 27], &[2, 4]),
                 Door::Step => (&[0, 1], &[]),
+                Door::Earliest => (&[0, 1, 2, 3, 4, 27], &[0, 2, 4]),
             };
             for &number in numbers {
                 if self.of(door, number) == 0 {
@@ -109,6 +115,7 @@ impl Tally {
             }
             for &number in faults {
                 let places: Vec<u32> = match number {
+                    0 => (0..2).collect(),
                     2 => (0..14).collect(),
                     4 => (0..6).chain(RANGES.map(|t| t + LEFT_OVER)).collect(),
                     6 => (0..5).collect(),

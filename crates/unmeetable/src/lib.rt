@@ -1,0 +1,1 @@
+// No code: what the answers of `earliest` mean, as theorems in specs/.
