@@ -4,10 +4,10 @@
  * which nothing here can check:
  *   - a run's pointer points to as many elements as its count says, aligned for their type, readable (room, table, times: writable too), and
  *     changed by nobody else during the call; with a count of 0 it may be any pointer, also NULL;
- *   - every other pointer (number, a, b; token of open; token, start, value and end of step) points to a writable number of its type,
+ *   - every other pointer (number, a, b, c; token of open; token, start, value and end of step) points to a writable number of its type,
  *     aligned; in one call no two of them overlap, and none lies in a run that is lent;
  *   - room, table or times overlaps no other run. Runs that are only read may overlap each other.
- * What number, a, b, value and end held before the call doesn't matter. No function keeps a pointer, uses the heap, or writes to
+ * What number, a, b, c, value and end held before the call doesn't matter. No function keeps a pointer, uses the heap, or writes to
  * anything that isn't named here. Calls from several threads don't disturb each other.
  */
 #ifndef TTEOKBIRAN_H
@@ -24,40 +24,40 @@
 extern "C" {
 #endif
 
-/* The answer for the bytes of a book and of a plan, as three numbers, one by one: number, a, b, as on the fault card. Bytes are
+/* The answer for the bytes of a book and of a plan, as four numbers, one by one: number, a, b, c, as on the fault card. Bytes are
  * little-endian words. A run over 65,536 bytes, or no multiple of 4 long, counts as no words: 1 for the book, 5 for the plan, after the
  * book's faults. */
 void tteokbiran_judge(const uint8_t *book, size_t book_len, const uint8_t *plan, size_t plan_len, uint32_t *number, uint32_t *a,
-                      uint32_t *b);
+                      uint32_t *b, uint32_t *c);
 
 /* The same for the bytes of a sheet, whose constraints are read directly. */
 void tteokbiran_judge_sheet(const uint8_t *sheet, size_t sheet_len, const uint8_t *plan, size_t plan_len, uint32_t *number, uint32_t *a,
-                            uint32_t *b);
+                            uint32_t *b, uint32_t *c);
 
 /* Translates the bytes of a sheet into a book, in lent words. On 0, a words were written at the start of room and b alternatives made;
  * the words behind them are as they were. On a refusal all of room is. */
 void tteokbiran_translate(const uint8_t *sheet, size_t sheet_len, uint32_t *room, size_t room_len, uint32_t *number, uint32_t *a,
-                          uint32_t *b);
+                          uint32_t *b, uint32_t *c);
 
 /* What the constraints of an alternative of a sheet, numbered over the whole of table 3, leave for every two of its tokens: sets of the
  * relations 0 to 12, one word each, by left token, then right, the trigger first if the rule has one. So table holds n x n words for n
  * tokens, at most 25. Answers 1 to 4 for the sheet, 27 for an alternative that it hasn't got, 25 for a table that is too short, else 0;
  * none but 2 and 4 has a place. The words behind the table are as they were; on a refusal all of table is. */
 void tteokbiran_narrow(const uint8_t *sheet, size_t sheet_len, uint32_t alternative, uint32_t *table, size_t table_len, uint32_t *number,
-                       uint32_t *a, uint32_t *b);
+                       uint32_t *a, uint32_t *b, uint32_t *c);
 
 /* Whether alternative number `alternative`, counted over all rules of the book, could be met on any day. Answers 1 to 4, then 27 for a
  * number that the book hasn't got; then 0 with a = 1 for yes, or a = 0 for no. With yes the earliest times stand at the start of times: start
  * and end of the trigger, if the rule has one, start and end of each name in order, and the plan's end last. They are at most 11, so 11 numbers
  * are room enough; fewer get as many of them as they hold. The numbers behind those shown, and on any other answer all, are as they were. */
 void tteokbiran_earliest(const uint8_t *book, size_t book_len, uint32_t alternative, uint64_t *times, size_t times_len, uint32_t *number,
-                         uint32_t *a, uint32_t *b);
+                         uint32_t *a, uint32_t *b, uint32_t *c);
 
-/* Opens a reader over timeline `line` of a plan, here as words. Answers 1 to 11, then 17 for a timeline that isn't there, else 0, as three
+/* Opens a reader over timeline `line` of a plan, here as words. Answers 1 to 11, then 17 for a timeline that isn't there, else 0, as four
  * numbers. *token becomes the token number of the position to read from: 0, or 4,294,967,295 on a refusal, which names no token. The
  * position's start is 0 in both cases. */
 void tteokbiran_open(const uint32_t *book, size_t book_len, const uint32_t *plan, size_t plan_len, uint32_t line, uint32_t *number,
-                     uint32_t *a, uint32_t *b, uint32_t *token);
+                     uint32_t *a, uint32_t *b, uint32_t *c, uint32_t *token);
 
 /* One step on timeline `line` of the lent words, at token number *token, which starts at *start. Any words and any position will do: it
  * isn't asked whether the plan was opened. True: *value and *end are the token's, and *token and *start become the next position's. False:

@@ -15,7 +15,7 @@
 int main(int argc, char **argv) {
     static uint8_t book[MOST];
     uint64_t times[TIMES];
-    uint32_t number, a, b;
+    uint32_t number, a, b, c;
     if (argc != 3) {
         fprintf(stderr, "usage: %s BOOK NUMBER\n", argv[0]);
         return 2;
@@ -26,8 +26,8 @@ int main(int argc, char **argv) {
         fclose(file);
     for (int i = 0; i < TIMES; i++)
         times[i] = UNSET;
-    tteokbiran_earliest(book, book_len, (uint32_t)strtoul(argv[2], NULL, 10), times, TIMES, &number, &a, &b);
-    printf("%" PRIu32 " %" PRIu32 " %" PRIu32, number, a, b);
+    tteokbiran_earliest(book, book_len, (uint32_t)strtoul(argv[2], NULL, 10), times, TIMES, &number, &a, &b, &c);
+    printf("%" PRIu32 " %" PRIu32 " %" PRIu32 " %" PRIu32, number, a, b, c);
     for (int i = 0; i < TIMES && times[i] != UNSET; i++)
         printf(" %" PRIu64, times[i]);
     printf("\n");

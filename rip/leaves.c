@@ -13,7 +13,7 @@
 
 int main(int argc, char **argv) {
     static uint8_t sheet[MOST];
-    uint32_t table[ROOM], number, a, b;
+    uint32_t table[ROOM], number, a, b, c;
     size_t sheet_len = 0;
     if (argc != 4) {
         fprintf(stderr, "usage: %s SHEET ALTERNATIVE WORDS\n", argv[0]);
@@ -30,8 +30,8 @@ int main(int argc, char **argv) {
         words = ROOM;
     for (size_t i = 0; i < ROOM; i++)
         table[i] = 9;
-    tteokbiran_narrow(sheet, sheet_len, alternative, table, words, &number, &a, &b);
-    printf("%" PRIu32 " %" PRIu32 " %" PRIu32 "\n", number, a, b);
+    tteokbiran_narrow(sheet, sheet_len, alternative, table, words, &number, &a, &b, &c);
+    printf("%" PRIu32 " %" PRIu32 " %" PRIu32 " %" PRIu32 "\n", number, a, b, c);
     for (size_t i = 0; i < words; i++)
         printf("%" PRIu32 "%c", table[i], i + 1 == words ? '\n' : ' ');
     return 0;

@@ -18,14 +18,14 @@ static size_t slurp(const char *name, uint8_t *bytes) {
 
 int main(int argc, char **argv) {
     static uint8_t book[MOST], plan[MOST];
-    uint32_t number, a, b;
+    uint32_t number, a, b, c;
     if (argc != 3) {
         fprintf(stderr, "usage: %s BOOK PLAN\n", argv[0]);
         return 2;
     }
     size_t book_len = slurp(argv[1], book);
     size_t plan_len = slurp(argv[2], plan);
-    tteokbiran_judge(book, book_len, plan, plan_len, &number, &a, &b);
-    printf("%" PRIu32 " %" PRIu32 " %" PRIu32 "\n", number, a, b);
+    tteokbiran_judge(book, book_len, plan, plan_len, &number, &a, &b, &c);
+    printf("%" PRIu32 " %" PRIu32 " %" PRIu32 " %" PRIu32 "\n", number, a, b, c);
     return 0;
 }

@@ -18,22 +18,22 @@
 static uint8_t book[MOST], sheet[MOST], plan[MOST];
 static uint32_t book_words[MOST / 4], plan_words[MOST / 4], room[16384];
 static size_t book_len, sheet_len, plan_len;
-static uint32_t number, a, b, token, value;
+static uint32_t number, a, b, c, token, value;
 static uint32_t table[25];
 static uint64_t start, end, times[11];
 
-static void judge(void) { tteokbiran_judge(book, book_len, plan, plan_len, &number, &a, &b); }
+static void judge(void) { tteokbiran_judge(book, book_len, plan, plan_len, &number, &a, &b, &c); }
 
-static void judge_sheet(void) { tteokbiran_judge_sheet(sheet, sheet_len, plan, plan_len, &number, &a, &b); }
+static void judge_sheet(void) { tteokbiran_judge_sheet(sheet, sheet_len, plan, plan_len, &number, &a, &b, &c); }
 
-static void translate(void) { tteokbiran_translate(sheet, sheet_len, room, 16384, &number, &a, &b); }
+static void translate(void) { tteokbiran_translate(sheet, sheet_len, room, 16384, &number, &a, &b, &c); }
 
-static void narrow(void) { tteokbiran_narrow(sheet, sheet_len, 0, table, 25, &number, &a, &b); }
+static void narrow(void) { tteokbiran_narrow(sheet, sheet_len, 0, table, 25, &number, &a, &b, &c); }
 
-static void earliest(void) { tteokbiran_earliest(book, book_len, 0, times, 11, &number, &a, &b); }
+static void earliest(void) { tteokbiran_earliest(book, book_len, 0, times, 11, &number, &a, &b, &c); }
 
 static void open_last(void) {
-    tteokbiran_open(book_words, book_len / 4, plan_words, plan_len / 4, plan_words[2] - 1, &number, &a, &b, &token);
+    tteokbiran_open(book_words, book_len / 4, plan_words, plan_len / 4, plan_words[2] - 1, &number, &a, &b, &c, &token);
 }
 
 static void step_all(void) {

@@ -66,7 +66,7 @@ pub fn earliest(words: &[u32], alternative: u32, room: &mut [u64]) -> Answer {
     };
     let number = alternative as usize;
     let Some(own) = book.alternatives.get(number) else {
-        return [27, 0, 0];
+        return [27, 0, 0, 0];
     };
     let rule = book.rules.iter().find(|r| r.alternatives.contains(&number));
     let trigger = rule.expect("the ranges use all of the table").trigger;
@@ -94,10 +94,10 @@ pub fn earliest(words: &[u32], alternative: u32, room: &mut [u64]) -> Answer {
         }
     }
     match net.solve() {
-        None => [0, 0, 0],
+        None => [0, 0, 0, 0],
         Some(times) => {
             room.iter_mut().zip(times).for_each(|(place, time)| *place = time);
-            [0, 1, 0]
+            [0, 1, 0, 0]
         }
     }
 }

@@ -1,7 +1,7 @@
 //! The layout of book and sheet: header, tables, limits.
 
-/// Number, a, b.
-pub type Answer = [u32; 3];
+/// Number, a, b, c.
+pub type Answer = [u32; 4];
 
 /// The mark for no limit and for no trigger.
 pub const N: u32 = u32::MAX;
@@ -73,13 +73,13 @@ impl<'a> Tables<'a> {
 /// Checks length and header, which is faults 1 to 3.
 pub fn tables(words: &[u32], kind: Kind) -> Result<Tables<'_>, Answer> {
     if words.len() < HEADER || words.len() > MAX_WORDS {
-        return Err([1, 0, 0]);
+        return Err([1, 0, 0, 0]);
     }
     if words[0] != kind.edition() {
-        return Err([2, 0, 0]);
+        return Err([2, 0, 0, 0]);
     }
     if words[1] as usize != words.len() {
-        return Err([2, 1, 0]);
+        return Err([2, 1, 0, 0]);
     }
     let sizes = kind.sizes();
     let mut at = HEADER;
@@ -88,10 +88,10 @@ pub fn tables(words: &[u32], kind: Kind) -> Result<Tables<'_>, Answer> {
         let word = 2 + 2 * table;
         let (fewest, most) = COUNTS[table];
         if words[word] < fewest || words[word] > most {
-            return Err([2, word as u32, 0]);
+            return Err([2, word as u32, 0, 0]);
         }
         if words[word + 1] as usize != at {
-            return Err([2, word as u32 + 1, 0]);
+            return Err([2, word as u32 + 1, 0, 0]);
         }
         let end = at + words[word] as usize * sizes[table];
         bounds[table] = (at, end);
@@ -99,7 +99,7 @@ pub fn tables(words: &[u32], kind: Kind) -> Result<Tables<'_>, Answer> {
     }
     // The ends rise, so with the last one right every slice lies inside.
     if at != words.len() {
-        return Err([3, 0, 0]);
+        return Err([3, 0, 0, 0]);
     }
     Ok(Tables { sizes, words: bounds.map(|(from, to)| &words[from..to]) })
 }

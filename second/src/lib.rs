@@ -57,8 +57,8 @@ pub fn judge_sheet(sheet: &[u32], plan: &[u32]) -> Answer {
 pub fn open_reader(book: &[u32], plan: &[u32], line: u32) -> (Answer, u32, u32) {
     match both::<search::Atom>(book, plan) {
         Err(fault) => (fault, N, 0),
-        Ok((book, _)) if line as usize >= book.variables.len() => ([17, 0, 0], N, 0),
-        Ok(_) => ([0, 0, 0], 0, 0),
+        Ok((book, _)) if line as usize >= book.variables.len() => ([17, 0, 0, 0], N, 0),
+        Ok(_) => ([0, 0, 0, 0], 0, 0),
     }
 }
 

@@ -113,13 +113,13 @@ pub fn narrow(sheet: &[u32], alternative: u32, table: &mut [u32]) -> Answer {
     };
     let number = alternative as usize;
     let Some(own) = book.alternatives.get(number) else {
-        return [27, 0, 0];
+        return [27, 0, 0, 0];
     };
     let rule = book.rules.iter().find(|rule| rule.alternatives.contains(&number));
     let without = usize::from(rule.expect("each alternative has a rule").trigger.is_none());
     let tokens = own.names.len() + 1 - without;
     if table.len() < tokens * tokens {
-        return [25, 0, 0];
+        return [25, 0, 0, 0];
     }
     let mut left = Left::new(tokens);
     for test in &book.tests[own.tests.clone()] {
@@ -129,7 +129,7 @@ pub fn narrow(sheet: &[u32], alternative: u32, table: &mut [u32]) -> Answer {
     for (word, set) in table.iter_mut().zip(&left.left) {
         *word = (0..ALL).filter(|&k| set[k]).map(|k| 1 << k).sum();
     }
-    [0, 0, 0]
+    [0, 0, 0, 0]
 }
 
 /// A sheet, an alternative and the words of the table, and what they give.
@@ -156,18 +156,18 @@ pub fn specimens() -> Vec<Specimen> {
     let any = with(&own, 31, 8191);
     let e = E_SHEET.to_vec();
     let list: [(&'static str, Vec<u32>, u32, usize, Answer, &[u32]); 12] = [
-        ("E as a sheet, a word behind", e.clone(), 0, 5, [0, 0, 0], &[64, 864, 216, 64]),
-        ("E as a sheet, table of 3", e.clone(), 0, 3, [25, 0, 0], &[]),
-        ("E as a sheet, alternative 1", e.clone(), 1, 0, [27, 0, 0], &[]),
-        ("E as a sheet, alternative N", e, N, 25, [27, 0, 0], &[]),
-        ("a book", E.to_vec(), 0, 25, [2, 0, 0], &[]),
-        ("each before the other", both, 0, 4, [0, 0, 0], &[0; 4]),
-        ("before itself", own, 0, 4, [0, 0, 0], &[0; 4]),
-        ("in any relation with itself", any, 0, 4, [0, 0, 0], &[64, 8191, 8191, 64]),
-        ("no trigger, 1 meets 2", meets, 0, 5, [0, 0, 0], &[64, 2, 2048, 64]),
-        ("no tokens", none, 0, 0, [0, 0, 0], &[]),
-        ("before and before", chain, 0, 9, [0, 0, 0], &[64, 1, 1, 4096, 64, 1, 4096, 4096, 64]),
-        ("can't be met, and stays", stays, 0, 16, [0, 0, 0],
+        ("E as a sheet, a word behind", e.clone(), 0, 5, [0, 0, 0, 0], &[64, 864, 216, 64]),
+        ("E as a sheet, table of 3", e.clone(), 0, 3, [25, 0, 0, 0], &[]),
+        ("E as a sheet, alternative 1", e.clone(), 1, 0, [27, 0, 0, 0], &[]),
+        ("E as a sheet, alternative N", e, N, 25, [27, 0, 0, 0], &[]),
+        ("a book", E.to_vec(), 0, 25, [2, 0, 0, 0], &[]),
+        ("each before the other", both, 0, 4, [0, 0, 0, 0], &[0; 4]),
+        ("before itself", own, 0, 4, [0, 0, 0, 0], &[0; 4]),
+        ("in any relation with itself", any, 0, 4, [0, 0, 0, 0], &[64, 8191, 8191, 64]),
+        ("no trigger, 1 meets 2", meets, 0, 5, [0, 0, 0, 0], &[64, 2, 2048, 64]),
+        ("no tokens", none, 0, 0, [0, 0, 0, 0], &[]),
+        ("before and before", chain, 0, 9, [0, 0, 0, 0], &[64, 1, 1, 4096, 64, 1, 4096, 4096, 64]),
+        ("can't be met, and stays", stays, 0, 16, [0, 0, 0, 0],
             &[64, 34, 4, 34, 2176, 64, 272, 520, 1024, 272, 64, 272, 2176, 520, 272, 64]),
     ];
     list.map(|(name, sheet, alternative, room, answer, written)| Specimen {

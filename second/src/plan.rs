@@ -21,11 +21,11 @@ impl Tokens {
 fn counts(words: &[u32], variables: usize) -> Result<Vec<u32>, Answer> {
     let tokens_at = 3 + 2 * variables;
     if words.len() < tokens_at || words.len() > MAX_WORDS {
-        return Err([5, 0, 0]);
+        return Err([5, 0, 0, 0]);
     }
     for (i, expected) in [1, words.len(), variables].into_iter().enumerate() {
         if words[i] as usize != expected {
-            return Err([6, i as u32, 0]);
+            return Err([6, i as u32, 0, 0]);
         }
     }
     let mut sum = 0;
@@ -33,16 +33,16 @@ fn counts(words: &[u32], variables: usize) -> Result<Vec<u32>, Answer> {
     for line in 0..variables {
         let at = 3 + 2 * line;
         if words[at] != sum {
-            return Err([6, at as u32, 0]);
+            return Err([6, at as u32, 0, 0]);
         }
         if words[at + 1] > MAX_TOKENS {
-            return Err([6, at as u32 + 1, 0]);
+            return Err([6, at as u32 + 1, 0, 0]);
         }
         sum += words[at + 1];
         counts.push(words[at + 1]);
     }
     if tokens_at + 2 * sum as usize != words.len() {
-        return Err([7, 0, 0]);
+        return Err([7, 0, 0, 0]);
     }
     Ok(counts)
 }
@@ -61,13 +61,13 @@ pub fn tokens<T>(book: &Book<T>, words: &[u32]) -> Result<Tokens, Answer> {
         let base = book.variables[line].start;
         let values = &book.values[book.variables[line].clone()];
         let end = check_line(values, own, &mut first[base + 1..])
-            .map_err(|(number, token)| [number, line as u32, token as u32])?;
+            .map_err(|(number, token)| [number, line as u32, token as u32, 0])?;
         ends.push(end);
         split.push((base, own));
         left = after;
     }
     if let Some(line) = ends.iter().position(|end| *end != ends[0]) {
-        return Err([18, line as u32, 0]);
+        return Err([18, line as u32, 0, 0]);
     }
     for value in 1..first.len() {
         first[value] += first[value - 1];

@@ -37,6 +37,7 @@ mod calls {
             number: *mut u32,
             a: *mut u32,
             b: *mut u32,
+            c: *mut u32,
         );
         fn tteokbiran_judge_sheet(
             sheet: *const u8,
@@ -46,6 +47,7 @@ mod calls {
             number: *mut u32,
             a: *mut u32,
             b: *mut u32,
+            c: *mut u32,
         );
         fn tteokbiran_translate(
             sheet: *const u8,
@@ -55,6 +57,7 @@ mod calls {
             number: *mut u32,
             a: *mut u32,
             b: *mut u32,
+            c: *mut u32,
         );
         fn tteokbiran_narrow(
             sheet: *const u8,
@@ -65,6 +68,7 @@ mod calls {
             number: *mut u32,
             a: *mut u32,
             b: *mut u32,
+            c: *mut u32,
         );
         fn tteokbiran_earliest(
             book: *const u8,
@@ -75,6 +79,7 @@ mod calls {
             number: *mut u32,
             a: *mut u32,
             b: *mut u32,
+            c: *mut u32,
         );
         fn tteokbiran_open(
             book: *const u32,
@@ -85,6 +90,7 @@ mod calls {
             number: *mut u32,
             a: *mut u32,
             b: *mut u32,
+            c: *mut u32,
             token: *mut u32,
         );
         fn tteokbiran_step(
@@ -99,7 +105,7 @@ mod calls {
     }
 
     pub fn judge(book: &[u8], plan: &[u8]) -> Answer {
-        let [mut number, mut a, mut b] = [UNSET; 3];
+        let [mut number, mut a, mut b, mut c] = [UNSET; 4];
         // Safe, here and below: each pointer comes with the length of a live
         // slice or points to a live number, and nothing is kept.
         unsafe {
@@ -111,13 +117,14 @@ mod calls {
                 &mut number,
                 &mut a,
                 &mut b,
+                &mut c,
             );
         }
-        [number, a, b]
+        [number, a, b, c]
     }
 
     pub fn judge_sheet(sheet: &[u8], plan: &[u8]) -> Answer {
-        let [mut number, mut a, mut b] = [UNSET; 3];
+        let [mut number, mut a, mut b, mut c] = [UNSET; 4];
         unsafe {
             tteokbiran_judge_sheet(
                 sheet.as_ptr(),
@@ -127,13 +134,14 @@ mod calls {
                 &mut number,
                 &mut a,
                 &mut b,
+                &mut c,
             );
         }
-        [number, a, b]
+        [number, a, b, c]
     }
 
     pub fn translate(sheet: &[u8], room: &mut [u32]) -> Answer {
-        let [mut number, mut a, mut b] = [UNSET; 3];
+        let [mut number, mut a, mut b, mut c] = [UNSET; 4];
         unsafe {
             tteokbiran_translate(
                 sheet.as_ptr(),
@@ -143,13 +151,14 @@ mod calls {
                 &mut number,
                 &mut a,
                 &mut b,
+                &mut c,
             );
         }
-        [number, a, b]
+        [number, a, b, c]
     }
 
     pub fn narrow(sheet: &[u8], alternative: u32, table: &mut [u32]) -> Answer {
-        let [mut number, mut a, mut b] = [UNSET; 3];
+        let [mut number, mut a, mut b, mut c] = [UNSET; 4];
         unsafe {
             tteokbiran_narrow(
                 sheet.as_ptr(),
@@ -160,13 +169,14 @@ mod calls {
                 &mut number,
                 &mut a,
                 &mut b,
+                &mut c,
             );
         }
-        [number, a, b]
+        [number, a, b, c]
     }
 
     pub fn earliest(book: &[u8], alternative: u32, times: &mut [u64]) -> Answer {
-        let [mut number, mut a, mut b] = [UNSET; 3];
+        let [mut number, mut a, mut b, mut c] = [UNSET; 4];
         unsafe {
             tteokbiran_earliest(
                 book.as_ptr(),
@@ -177,14 +187,15 @@ mod calls {
                 &mut number,
                 &mut a,
                 &mut b,
+                &mut c,
             );
         }
-        [number, a, b]
+        [number, a, b, c]
     }
 
     /// The answer, and the token number that the reader stands at.
     pub fn open(book: &[u32], plan: &[u32], line: u32) -> (Answer, u32) {
-        let [mut number, mut a, mut b, mut token] = [UNSET; 4];
+        let [mut number, mut a, mut b, mut c, mut token] = [UNSET; 5];
         unsafe {
             tteokbiran_open(
                 book.as_ptr(),
@@ -195,10 +206,11 @@ mod calls {
                 &mut number,
                 &mut a,
                 &mut b,
+                &mut c,
                 &mut token,
             );
         }
-        ([number, a, b], token)
+        ([number, a, b, c], token)
     }
 
     pub fn step(plan: &[u32], at: Position) -> Step {

@@ -14,6 +14,9 @@ struct Term {
 }
 
 impl Term {
+    /// The kinds that there are.
+    const KINDS: std::ops::RangeInclusive<u32> = 0..=2;
+
     fn read(kind: u32, argument: u32, owner: &Owner) -> Option<Term> {
         if kind == 2 {
             let add = i64::from(argument);
@@ -41,16 +44,23 @@ pub struct Atom {
 impl Test for Atom {
     const KIND: Kind = Kind::Book;
 
-    fn read(r: &[u32], owner: &Owner) -> Option<Atom> {
-        let left = Term::read(r[0], r[1], owner)?;
-        let right = Term::read(r[2], r[3], owner)?;
+    fn read(r: &[u32], owner: &Owner) -> Result<Atom, u32> {
+        // A term that can't be read has a wrong argument, if there is its kind.
+        let term = |at: usize| {
+            let argument = u32::from(Term::KINDS.contains(&r[at]));
+            Term::read(r[at], r[at + 1], owner).ok_or(at as u32 + argument)
+        };
+        let (left, right) = (term(0)?, term(2)?);
         let (lower, upper) = (r[4], r[5]);
-        if lower > LAST || (upper != N && !(lower..=LAST).contains(&upper)) {
-            return None;
+        if lower > LAST {
+            return Err(4);
+        }
+        if upper != N && !(lower..=LAST).contains(&upper) {
+            return Err(5);
         }
         // What the terms add moves to the bounds, once for all.
         let moved = left.add - right.add;
-        Some(Atom {
+        Ok(Atom {
             left: left.place,
             right: right.place,
             last_name: left.name.max(right.name),
@@ -80,12 +90,12 @@ pub fn judge_rules<T: Test>(book: &Book<T>, tokens: &Tokens) -> Answer {
         let alternatives = &book.alternatives[rule.alternatives.clone()];
         for trigger in triggers {
             if !alternatives.iter().any(|a| can_be_met(book, tokens, a, *trigger)) {
-                return [12, number as u32, trigger.token];
+                return [12, number as u32, trigger.token, 0];
             }
             examined += 1;
         }
     }
-    [0, examined, 0]
+    [0, examined, 0, 0]
 }
 
 /// Whether some choice of one token for each name makes all tests hold. Goes

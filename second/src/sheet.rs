@@ -42,10 +42,11 @@ pub struct Constraint {
 impl Test for Constraint {
     const KIND: Kind = Kind::Sheet;
 
-    fn read(r: &[u32], owner: &Owner) -> Option<Constraint> {
-        let left = owner.token(r[0])?;
-        let right = owner.token(r[1])?;
-        (1..1 << RELATIONS).contains(&r[2]).then_some(Constraint { left, right, set: r[2] })
+    fn read(r: &[u32], owner: &Owner) -> Result<Constraint, u32> {
+        let left = owner.token(r[0]).ok_or(0u32)?;
+        let right = owner.token(r[1]).ok_or(1u32)?;
+        let good = (1..1 << RELATIONS).contains(&r[2]);
+        good.then_some(Constraint { left, right, set: r[2] }).ok_or(2)
     }
 
     fn last_name(&self) -> usize {

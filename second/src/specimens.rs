@@ -87,6 +87,7 @@ pub fn all() -> Vec<Specimen> {
     list.extend(traps());
     list.extend(ends());
     list.extend(earliest());
+    list.extend(wrong_words());
     list
 }
 
@@ -103,34 +104,67 @@ fn from_the_law() -> Vec<Specimen> {
     let sets = |first, second| Call::Translate(two_sets(first, second), 16_384);
     let made = |(name, call, expected)| Specimen { name, call, expected };
     [
-        ("P1", e(P1.to_vec()), [12, 0, 3]),
-        ("P2", e(P2.to_vec()), [0, 2, 0]),
-        ("empty plan", e(EMPTY_PLAN.to_vec()), [0, 0, 0]),
-        ("job of 20 at 4", p2(14, 4), [9, 1, 1]),
-        ("job of 20 at 61", p2(14, 61), [9, 1, 1]),
+        ("P1", e(P1.to_vec()), [12, 0, 3, 0]),
+        ("P2", e(P2.to_vec()), [0, 2, 0, 0]),
+        ("empty plan", e(EMPTY_PLAN.to_vec()), [0, 0, 0, 0]),
+        ("job of 20 at 4", p2(14, 4), [9, 1, 1, 0]),
+        ("job of 20 at 61", p2(14, 61), [9, 1, 1, 0]),
         // These pass 9 and 11; their lines don't end together.
-        ("job of 20 at 5", p2(14, 5), [18, 1, 0]),
-        ("job of 20 at 60", p2(14, 60), [18, 1, 0]),
-        ("second decoder value 0", p2(9, 0), [10, 0, 1]),
-        ("second decoder value 2", p2(9, 2), [8, 0, 1]),
-        ("second decoder to the last tick", p2(10, 999_999_990), [18, 1, 0]),
-        ("second decoder past the last tick", p2(10, 999_999_991), [11, 0, 1]),
-        ("no trigger, no names", free(&[]), [0, 1, 0]),
-        ("no trigger, one name", free(&[[0, 0]]), [12, 0, 0]),
-        ("bounds 10..20, difference 9", bounds(9), [12, 0, 0]),
-        ("bounds 10..20, difference 10", bounds(10), [0, 1, 0]),
-        ("bounds 10..20, difference 20", bounds(20), [0, 1, 0]),
-        ("bounds 10..20, difference 21", bounds(21), [12, 0, 0]),
-        ("0..10 meets 10..20", meeting(1 << 1), [0, 1, 0]),
-        ("0..10 isn't before 10..20", meeting(1 << 0), [12, 0, 0]),
-        ("E as a sheet, P1", Call::JudgeSheet(E_SHEET.to_vec(), P1.to_vec()), [12, 0, 3]),
-        ("E as a sheet, P2", Call::JudgeSheet(E_SHEET.to_vec(), P2.to_vec()), [0, 2, 0]),
-        ("E as a sheet, translated", room(16_384), [0, 106, 4]),
-        ("E as a sheet, room 106", room(106), [0, 106, 4]),
-        ("E as a sheet, room 105", room(105), [15, 106, 0]),
+        ("job of 20 at 5", p2(14, 5), [18, 1, 0, 0]),
+        ("job of 20 at 60", p2(14, 60), [18, 1, 0, 0]),
+        ("second decoder value 0", p2(9, 0), [10, 0, 1, 0]),
+        ("second decoder value 2", p2(9, 2), [8, 0, 1, 0]),
+        ("second decoder to the last tick", p2(10, 999_999_990), [18, 1, 0, 0]),
+        ("second decoder past the last tick", p2(10, 999_999_991), [11, 0, 1, 0]),
+        ("no trigger, no names", free(&[]), [0, 1, 0, 0]),
+        ("no trigger, one name", free(&[[0, 0]]), [12, 0, 0, 0]),
+        ("bounds 10..20, difference 9", bounds(9), [12, 0, 0, 0]),
+        ("bounds 10..20, difference 10", bounds(10), [0, 1, 0, 0]),
+        ("bounds 10..20, difference 20", bounds(20), [0, 1, 0, 0]),
+        ("bounds 10..20, difference 21", bounds(21), [12, 0, 0, 0]),
+        ("0..10 meets 10..20", meeting(1 << 1), [0, 1, 0, 0]),
+        ("0..10 isn't before 10..20", meeting(1 << 0), [12, 0, 0, 0]),
+        ("E as a sheet, P1", Call::JudgeSheet(E_SHEET.to_vec(), P1.to_vec()), [12, 0, 3, 0]),
+        ("E as a sheet, P2", Call::JudgeSheet(E_SHEET.to_vec(), P2.to_vec()), [0, 2, 0, 0]),
+        ("E as a sheet, translated", room(16_384), [0, 106, 4, 0]),
+        ("E as a sheet, room 106", room(106), [0, 106, 4, 0]),
+        ("E as a sheet, room 105", room(105), [15, 106, 0, 0]),
         // 34 words, then 64 alternatives of one name and 240 atoms.
-        ("sets of 8 and 8", sets(255, 255), [0, 1858, 64]),
-        ("sets of 5 and 13", sets(31, 8191), [13, 0, 0]),
+        ("sets of 8 and 8", sets(255, 255), [0, 1858, 64, 0]),
+        ("sets of 5 and 13", sets(31, 8191), [13, 0, 0, 0]),
+    ]
+    .map(made)
+    .into()
+}
+
+/// Which word of a record is wrong, where that is easily mistaken.
+fn wrong_words() -> Vec<Specimen> {
+    let book = |words: &[u32]| Call::Judge(words.to_vec(), EMPTY_PLAN.to_vec());
+    let made = |(name, call, expected)| Specimen { name, call, expected };
+    [
+        (
+            "no alternative is left for the second rule",
+            book(&[
+                1, 35, 1, 14, 1, 16, 2, 19, 2, 27, 0, 35, 0, 35, 0, 1, 1, N, 1, N, 0, 0, 2, N, 0, 2, 1,
+                0, 0, 0, 0, 0, 0, 0, 0,
+            ]),
+            [4, 2, 1, 3],
+        ),
+        (
+            "names are left over",
+            book(&[
+                1, 31, 1, 14, 1, 16, 1, 19, 1, 23, 2, 27, 0, 31, 0, 1, 1, N, 1, N, 0, 0, 1, 0, 1, 0, 0,
+                0, 0, 0, 0,
+            ]),
+            [4, 3, 1, 0],
+        ),
+        ("a kind that isn't there", book(&with(&E, 46, 9)), [4, 5, 1, 0]),
+        ("a right argument past the names", book(&with(&E, 49, 2)), [4, 5, 1, 3]),
+        (
+            "a set of 8,192",
+            Call::JudgeSheet(with(&E_SHEET, 42, 8192), EMPTY_PLAN.to_vec()),
+            [4, 5, 0, 2],
+        ),
     ]
     .map(made)
     .into()
@@ -149,22 +183,22 @@ fn traps() -> Vec<Specimen> {
         (
             "one choice for all atoms",
             judge(NO_TRIGGER, vec![alternative(&[[0, 0]], &apart)], plan_words(&lines)),
-            [12, 0, 0],
+            [12, 0, 0, 0],
         ),
         (
             "one token serves trigger and two names",
             judge([0, 0], vec![alternative(&[[0, 0], [0, 0]], &[])], one_token(1)),
-            [0, 1, 0],
+            [0, 1, 0, 0],
         ),
         (
             "right comes first",
             judge([0, 0], vec![alternative(&[], &[&[1, 0, 0, 0, 0, N]])], one_token(1)),
-            [12, 0, 0],
+            [12, 0, 0, 0],
         ),
         (
             "a later alternative is met",
             judge([0, 0], vec![alternative(&[], &[never]), alternative(&[], &[])], one_token(1)),
-            [0, 1, 0],
+            [0, 1, 0, 0],
         ),
         (
             "during has no shared end",
@@ -172,7 +206,7 @@ fn traps() -> Vec<Specimen> {
                 relation(&[[1, 1]], 1 << 8),
                 plan_words(&vec![vec![[1, 10], [0, 10]], vec![[0, 5], [1, 15]]]),
             ),
-            [12, 0, 1],
+            [12, 0, 1, 0],
         ),
     ]
     .map(made)
@@ -185,13 +219,13 @@ fn ends() -> Vec<Specimen> {
     let only_line_0 = plan_words(&vec![vec![[0, 5]], vec![]]);
     let made = |(name, call, expected)| Specimen { name, call, expected };
     [
-        ("line 0 is empty", e(vec![vec![], vec![[0, 5]]]), [18, 1, 0]),
-        ("line 1 is empty", e(vec![vec![[0, 5]], vec![]]), [18, 1, 0]),
-        ("a later line's 8 first", e(vec![vec![[0, 5]], vec![[0, 10], [2, 1]]]), [8, 1, 1]),
-        ("line 1 ends later", e(vec![vec![[0, 5]], vec![[0, 6]]]), [18, 1, 0]),
-        ("line 1 ends earlier", e(vec![vec![[0, 5]], vec![[0, 4]]]), [18, 1, 0]),
-        ("both end at 5", e(vec![vec![[0, 5]]; 2]), [0, 0, 0]),
-        ("18 for a sheet", Call::JudgeSheet(E_SHEET.to_vec(), only_line_0), [18, 1, 0]),
+        ("line 0 is empty", e(vec![vec![], vec![[0, 5]]]), [18, 1, 0, 0]),
+        ("line 1 is empty", e(vec![vec![[0, 5]], vec![]]), [18, 1, 0, 0]),
+        ("a later line's 8 first", e(vec![vec![[0, 5]], vec![[0, 10], [2, 1]]]), [8, 1, 1, 0]),
+        ("line 1 ends later", e(vec![vec![[0, 5]], vec![[0, 6]]]), [18, 1, 0, 0]),
+        ("line 1 ends earlier", e(vec![vec![[0, 5]], vec![[0, 4]]]), [18, 1, 0, 0]),
+        ("both end at 5", e(vec![vec![[0, 5]]; 2]), [0, 0, 0, 0]),
+        ("18 for a sheet", Call::JudgeSheet(E_SHEET.to_vec(), only_line_0), [18, 1, 0, 0]),
     ]
     .map(made)
     .into()
@@ -216,23 +250,23 @@ fn earliest() -> Vec<Specimen> {
     let both: [&[u32]; 2] = [&[0, 1, 0, 2, 40, N], &[0, 1, 0, 2, 0, 30]];
     let made = |(name, call, expected)| Specimen { name, call, expected };
     [
-        ("earliest of E", shows(E.to_vec(), &[0, 5, 0, 5, 5]), [0, 1, 0]),
-        ("no second alternative in E", Call::Earliest(E.to_vec(), 1, vec![]), [27, 0, 0]),
-        ("two time points apart", free(&[], &[&[2, 10, 2, 5, 0, N]], &[]), [0, 0, 0]),
-        ("no tokens, the plan's end alone", free(&[], &[&[2, 5, 2, 10, 5, 5]], &[0]), [0, 1, 0]),
+        ("earliest of E", shows(E.to_vec(), &[0, 5, 0, 5, 5]), [0, 1, 0, 0]),
+        ("no second alternative in E", Call::Earliest(E.to_vec(), 1, vec![]), [27, 0, 0, 0]),
+        ("two time points apart", free(&[], &[&[2, 10, 2, 5, 0, N]], &[]), [0, 0, 0, 0]),
+        ("no tokens, the plan's end alone", free(&[], &[&[2, 5, 2, 10, 5, 5]], &[0]), [0, 1, 0, 0]),
         (
             "a day after the last tick",
             free(one, &[&[2, LAST, 0, 1, 5, N]], &[tick + 5, tick + 6, tick + 6]),
-            [0, 1, 0],
+            [0, 1, 0, 0],
         ),
-        ("6 before time point 5", free(one, &[&[0, 1, 2, 5, 6, N]], &[]), [0, 0, 0]),
-        ("a name that no atom speaks of", free(one, &[], &[0, 1, 1]), [0, 1, 0]),
-        ("at least 40 and at most 30", free(&[[0, 0]; 2], &both, &[]), [0, 0, 0]),
-        ("times over 32 bits", shows(first(LAST, NO_TRIGGER, &[[0, 0]; 4], &far), &day), [0, 1, 0]),
+        ("6 before time point 5", free(one, &[&[0, 1, 2, 5, 6, N]], &[]), [0, 0, 0, 0]),
+        ("a name that no atom speaks of", free(one, &[], &[0, 1, 1]), [0, 1, 0, 0]),
+        ("at least 40 and at most 30", free(&[[0, 0]; 2], &both, &[]), [0, 0, 0, 0]),
+        ("times over 32 bits", shows(first(LAST, NO_TRIGGER, &[[0, 0]; 4], &far), &day), [0, 1, 0, 0]),
         (
             "a trigger pulled up",
             shows(first(1, [0, 0], one, &[&[1, 1, 0, 0, 7, N]]), &[8, 9, 0, 1, 9]),
-            [0, 1, 0],
+            [0, 1, 0, 0],
         ),
     ]
     .map(made)

@@ -2,7 +2,7 @@ use crate::generate::draft::{end, plan_words, AlternativeDraft, Draft, Lines, NO
 use crate::generate::random::{pair, SMALL};
 use crate::generate::rng::Rng;
 use crate::generate::{extreme, load, slow};
-use crate::layout::{Kind, LAST, N};
+use crate::layout::{Answer, Kind, LAST, N};
 use crate::specimens::{all, with, Call, E, EMPTY_PLAN, E_SHEET, P1, P2};
 use crate::words::to_bytes;
 use crate::{bytes, earliest, judge, judge_sheet, open_reader, step, translate, Position, Seen};
@@ -29,7 +29,7 @@ fn specimens_give_their_lines() {
 #[test]
 fn e_translates_word_for_word() {
     let mut room = vec![7; 110];
-    assert_eq!(translate(&E_SHEET, &mut room), [0, 106, 4]);
+    assert_eq!(translate(&E_SHEET, &mut room), [0, 106, 4, 0]);
     let head = [1, 106, 2, 14, 4, 18, 1, 30, 4, 34, 4, 50, 8, 58];
     assert_eq!(room[..14], head);
     assert_eq!(room[14..30], E[14..30]);
@@ -42,11 +42,11 @@ fn e_translates_word_for_word() {
     let finishes = [0, 1, 0, 0, 1, N, 1, 0, 1, 1, 0, 0];
     assert_eq!(room[58..106], [starts, equals, during, finishes].concat());
     assert_eq!(room[106..], [7; 4], "words past the book stay");
-    assert_eq!(judge(&room[..106], &P1), [12, 0, 3]);
-    assert_eq!(judge(&room[..106], &P2), [0, 2, 0]);
+    assert_eq!(judge(&room[..106], &P1), [12, 0, 3, 0]);
+    assert_eq!(judge(&room[..106], &P2), [0, 2, 0, 0]);
 
     let mut short = vec![7; 105];
-    assert_eq!(translate(&E_SHEET, &mut short), [15, 106, 0]);
+    assert_eq!(translate(&E_SHEET, &mut short), [15, 106, 0, 0]);
     assert_eq!(short, [7; 105], "refused, the room stays");
 }
 
@@ -57,7 +57,7 @@ fn the_last_constraint_turns_fastest() {
     let one = AlternativeDraft { names: vec![[0, 0]], tests };
     draft.rule([0, 0], vec![one]);
     let mut room = vec![0; 200];
-    let [_, written, alternatives] = translate(&draft.words(), &mut room);
+    let [_, written, alternatives, _] = translate(&draft.words(), &mut room);
     assert_eq!(alternatives, 4);
     let before = [1, 0, 0, 1, 1, N];
     let meets = [1, 0, 0, 1, 0, 0];
@@ -69,53 +69,53 @@ fn the_last_constraint_turns_fastest() {
 
 #[test]
 fn header_faults_name_the_first_wrong_word() {
-    assert_eq!(judge(&E[..13], &P2), [1, 0, 0]);
-    assert_eq!(judge(&[0; 16_385], &P2), [1, 0, 0]);
+    assert_eq!(judge(&E[..13], &P2), [1, 0, 0, 0]);
+    assert_eq!(judge(&[0; 16_385], &P2), [1, 0, 0, 0]);
     for word in 0..14 {
         // The last count is only too small for the length, so word 12 stays good.
-        let expected = if word == 12 { [3, 0, 0] } else { [2, word as u32, 0] };
+        let expected = if word == 12 { [3, 0, 0, 0] } else { [2, word as u32, 0, 0] };
         let other = if word == 12 { 1 } else { 70_000 };
         assert_eq!(judge(&with(&E, word, other), &P2), expected);
     }
-    assert_eq!(judge(&with(&E, 12, 2049), &P2), [2, 12, 0]);
+    assert_eq!(judge(&with(&E, 12, 2049), &P2), [2, 12, 0, 0]);
     // A count within its limits moves the next offset.
-    assert_eq!(judge(&with(&E, 2, 3), &P2), [2, 5, 0]);
+    assert_eq!(judge(&with(&E, 2, 3), &P2), [2, 5, 0, 0]);
 }
 
 #[test]
 fn record_faults() {
-    let cases: [(usize, u32, [u32; 3]); 24] = [
-        (14, 1, [4, 0, 0]),
-        (15, 0, [4, 0, 0]),
-        (15, 33, [4, 0, 0]),
-        (15, 1, [4, 0, 1]),
-        (17, 1, [4, 0, 2]),
-        (17, 3, [4, 0, 1]),
-        (18, 0, [4, 1, 0]),
-        (19, LAST + 1, [4, 1, 0]),
-        (19, N - 1, [4, 1, 0]),
-        (20, 4, [4, 1, 0]),
-        (28, 4, [4, 1, 3]),
-        (30, 2, [4, 2, 0]),
-        (31, 2, [4, 2, 0]),
-        (30, N, [4, 2, 0]),
-        (33, 0, [4, 2, 0]),
-        (35, 0, [4, 3, 1]),
-        (37, 33, [4, 3, 0]),
-        (37, 1, [4, 3, 1]),
-        (38, 2, [4, 4, 0]),
-        (39, 2, [4, 4, 0]),
-        (40, 3, [4, 5, 0]),
-        (41, 2, [4, 5, 0]),
-        (50, LAST + 1, [4, 5, 1]),
-        (51, N - 1, [4, 5, 1]),
+    let cases: [(usize, u32, Answer); 24] = [
+        (14, 1, [4, 0, 0, 0]),
+        (15, 0, [4, 0, 0, 1]),
+        (15, 33, [4, 0, 0, 1]),
+        (15, 1, [4, 0, 1, 0]),
+        (17, 1, [4, 0, 2, 0]),
+        (17, 3, [4, 0, 1, 1]),
+        (18, 0, [4, 1, 0, 0]),
+        (19, LAST + 1, [4, 1, 0, 1]),
+        (19, N - 1, [4, 1, 0, 1]),
+        (20, 4, [4, 1, 0, 2]),
+        (28, 4, [4, 1, 3, 1]),
+        (30, 2, [4, 2, 0, 0]),
+        (31, 2, [4, 2, 0, 1]),
+        (30, N, [4, 2, 0, 1]),
+        (33, 0, [4, 2, 0, 3]),
+        (35, 0, [4, 3, 1, 0]),
+        (37, 33, [4, 3, 0, 3]),
+        (37, 1, [4, 3, 1, 0]),
+        (38, 2, [4, 4, 0, 0]),
+        (39, 2, [4, 4, 0, 1]),
+        (40, 3, [4, 5, 0, 0]),
+        (41, 2, [4, 5, 0, 1]),
+        (50, LAST + 1, [4, 5, 1, 4]),
+        (51, N - 1, [4, 5, 1, 5]),
     ];
     for (at, word, expected) in cases {
         assert_eq!(judge(&with(&E, at, word), &P2), expected, "word {at} = {word}");
     }
     let mut no_trigger = with(&E, 30, N);
     no_trigger[31] = 0;
-    assert_eq!(judge(&no_trigger, &P2), [4, 5, 0], "0 needs a trigger");
+    assert_eq!(judge(&no_trigger, &P2), [4, 5, 0, 3], "0 needs a trigger");
 }
 
 #[test]
@@ -124,19 +124,19 @@ fn left_over_records() {
         let mut draft = Draft::new(Kind::Book, vec![vec![[1, N, 1]]]);
         draft.spare[table] = 1;
         let count = u32::from(expected == 0);
-        assert_eq!(judge(&draft.words(), &[]), [4, expected, count]);
+        assert_eq!(judge(&draft.words(), &[]), [4, expected, count, 0]);
     }
 }
 
 #[test]
 fn plan_faults_before_the_tokens() {
-    assert_eq!(judge(&E, &P2[..6]), [5, 0, 0]);
-    assert_eq!(judge(&E, &[0; 16_385]), [5, 0, 0]);
+    assert_eq!(judge(&E, &P2[..6]), [5, 0, 0, 0]);
+    assert_eq!(judge(&E, &[0; 16_385]), [5, 0, 0, 0]);
     for word in 0..7 {
-        let expected = [6, word as u32, 0];
+        let expected = [6, word as u32, 0, 0];
         assert_eq!(judge(&E, &with(&P2, word, 513)), expected);
     }
-    assert_eq!(judge(&E, &with(&EMPTY_PLAN, 6, 1)), [7, 0, 0]);
+    assert_eq!(judge(&E, &with(&EMPTY_PLAN, 6, 1)), [7, 0, 0, 0]);
 }
 
 #[test]
@@ -146,25 +146,26 @@ fn the_first_line_that_ends_elsewhere_than_line_0() {
         let lines = ends.map(|end| if end == 0 { vec![] } else { vec![[0, end]] });
         judge(&draft.words(), &plan_words(&lines.into()))
     };
-    assert_eq!(answer([0, 0, 0, 0]), [0, 0, 0]);
-    assert_eq!(answer([7, 7, 7, 7]), [0, 0, 0]);
-    assert_eq!(answer([7, 7, 6, 8]), [18, 2, 0]);
-    assert_eq!(answer([7, 7, 7, 0]), [18, 3, 0]);
-    assert_eq!(answer([0, 0, 7, 7]), [18, 2, 0]);
-    assert_eq!(answer([7, 8, 8, 8]), [18, 1, 0]);
+    assert_eq!(answer([0, 0, 0, 0]), [0, 0, 0, 0]);
+    assert_eq!(answer([7, 7, 7, 7]), [0, 0, 0, 0]);
+    assert_eq!(answer([7, 7, 6, 8]), [18, 2, 0, 0]);
+    assert_eq!(answer([7, 7, 7, 0]), [18, 3, 0, 0]);
+    assert_eq!(answer([0, 0, 7, 7]), [18, 2, 0, 0]);
+    assert_eq!(answer([7, 8, 8, 8]), [18, 1, 0, 0]);
     // The last tick of every line is tested before.
-    assert_eq!(answer([7, 8, 8, LAST + 1]), [11, 3, 0]);
+    assert_eq!(answer([7, 8, 8, LAST + 1]), [11, 3, 0, 0]);
 }
 
 #[test]
 fn the_sheet_has_limits_of_its_own() {
-    assert_eq!(judge_sheet(&E, &P2), [2, 0, 0]);
-    assert_eq!(judge(&E_SHEET, &P2), [2, 0, 0]);
+    assert_eq!(judge_sheet(&E, &P2), [2, 0, 0, 0]);
+    assert_eq!(judge(&E_SHEET, &P2), [2, 0, 0, 0]);
     for (at, word) in [(40, 2), (41, 2), (42, 0), (42, 8192)] {
-        assert_eq!(judge_sheet(&with(&E_SHEET, at, word), &P2), [4, 5, 0]);
-        assert_eq!(translate(&with(&E_SHEET, at, word), &mut [0; 200]), [4, 5, 0]);
+        let expected = [4, 5, 0, at as u32 - 40];
+        assert_eq!(judge_sheet(&with(&E_SHEET, at, word), &P2), expected);
+        assert_eq!(translate(&with(&E_SHEET, at, word), &mut [0; 200]), expected);
     }
-    assert_eq!(judge_sheet(&with(&E_SHEET, 42, 8191), &P1), [0, 2, 0]);
+    assert_eq!(judge_sheet(&with(&E_SHEET, 42, 8191), &P1), [0, 2, 0, 0]);
 }
 
 #[test]
@@ -176,7 +177,7 @@ fn sums_past_32_bits_are_refused() {
         };
         let sum: u64 = draft.rules[0].alternatives.iter().map(one).sum();
         assert!((0..4).contains(&(sum - (1 << 32))));
-        assert_eq!(translate(&draft.words(), &mut [0; 16_384]), [13, 0, 0]);
+        assert_eq!(translate(&draft.words(), &mut [0; 16_384]), [13, 0, 0, 0]);
     }
 }
 
@@ -184,11 +185,11 @@ fn sums_past_32_bits_are_refused() {
 fn largest_inputs_pass() {
     let (book, plan) = extreme::largest(Kind::Book);
     assert_eq!((book.len(), plan.len()), (16_384, 16_383));
-    assert_eq!(judge(&book, &plan), [0, 0, 0]);
+    assert_eq!(judge(&book, &plan), [0, 0, 0, 0]);
     let sheet = load::largest_sheet();
     let mut room = vec![0; 16_384];
-    assert_eq!(translate(&sheet, &mut room), [0, 16_384, 888]);
-    assert_eq!(judge(&room, &plan), [0, 0, 0]);
+    assert_eq!(translate(&sheet, &mut room), [0, 16_384, 888, 0]);
+    assert_eq!(judge(&room, &plan), [0, 0, 0, 0]);
 }
 
 #[test]
@@ -197,39 +198,39 @@ fn what_is_measured_reaches_the_rules() {
         Kind::Book => judge(&book, &plan),
         Kind::Sheet => judge_sheet(&book, &plan),
     };
-    assert_eq!(by(Kind::Book, load::one_name()), [0, 16_384, 0]);
-    assert_eq!(by(Kind::Book, load::two_names()), [0, 256, 0]);
+    assert_eq!(by(Kind::Book, load::one_name()), [0, 16_384, 0, 0]);
+    assert_eq!(by(Kind::Book, load::two_names()), [0, 256, 0, 0]);
     for (names, chained) in [(3, false), (4, false), (3, true), (4, true)] {
-        assert_eq!(by(Kind::Book, load::names(names, 8, chained)), [12, 0, 0]);
+        assert_eq!(by(Kind::Book, load::names(names, 8, chained)), [12, 0, 0, 0]);
     }
     for kind in [Kind::Book, Kind::Sheet] {
         for one in slow::BOTH {
             let (book, plan) = (one.make)(kind, 8);
             let rules = book[6];
-            assert_eq!(by(kind, (book, plan)), [0, 8 * rules, 0], "{}", one.name);
+            assert_eq!(by(kind, (book, plan)), [0, 8 * rules, 0, 0], "{}", one.name);
         }
     }
     for one in slow::SHEETS {
-        assert_eq!(by(Kind::Sheet, (one.make)(Kind::Sheet, 8)), [12, 0, 0], "{}", one.name);
+        assert_eq!(by(Kind::Sheet, (one.make)(Kind::Sheet, 8)), [12, 0, 0, 0], "{}", one.name);
     }
 }
 
 #[test]
 fn bytes_out_of_bounds_are_no_words() {
     let (book, plan) = (to_bytes(&E), to_bytes(&P2));
-    assert_eq!(bytes::judge(&book, &plan), [0, 2, 0]);
-    assert_eq!(bytes::judge(&book[1..], &plan), [1, 0, 0]);
-    assert_eq!(bytes::judge(&book, &plan[1..]), [5, 0, 0]);
-    assert_eq!(bytes::judge(&vec![0; 65_540], &plan), [1, 0, 0]);
-    assert_eq!(bytes::judge(&book, &vec![0; 65_540]), [5, 0, 0]);
+    assert_eq!(bytes::judge(&book, &plan), [0, 2, 0, 0]);
+    assert_eq!(bytes::judge(&book[1..], &plan), [1, 0, 0, 0]);
+    assert_eq!(bytes::judge(&book, &plan[1..]), [5, 0, 0, 0]);
+    assert_eq!(bytes::judge(&vec![0; 65_540], &plan), [1, 0, 0, 0]);
+    assert_eq!(bytes::judge(&book, &vec![0; 65_540]), [5, 0, 0, 0]);
 }
 
 #[test]
 fn a_reader_hands_out_the_line_and_then_no_more() {
-    assert_eq!(open_reader(&E, &P2, 2), ([17, 0, 0], N, 0));
-    assert_eq!(open_reader(&E, &P2[..6], 2), ([5, 0, 0], N, 0));
-    assert_eq!(open_reader(&E, &with(&P2, 14, 5), 2), ([18, 1, 0], N, 0), "18 before 17");
-    assert_eq!(open_reader(&E, &P2, 1), ([0, 0, 0], 0, 0));
+    assert_eq!(open_reader(&E, &P2, 2), ([17, 0, 0, 0], N, 0));
+    assert_eq!(open_reader(&E, &P2[..6], 2), ([5, 0, 0, 0], N, 0));
+    assert_eq!(open_reader(&E, &with(&P2, 14, 5), 2), ([18, 1, 0, 0], N, 0), "18 before 17");
+    assert_eq!(open_reader(&E, &P2, 1), ([0, 0, 0, 0], 0, 0));
     let mut at = Position { line: 1, token: 0, start: 0 };
     for (value, start, end) in [(0, 0, 10), (1, 10, 30), (0, 30, 40), (1, 40, 50)] {
         let (seen, next) = step(&P2, at).expect("a token");
@@ -257,10 +258,10 @@ fn a_step_takes_any_words_and_any_position() {
 }
 
 /// All tests at the end of each choice, and every choice tried.
-fn slow_answer(draft: &Draft, lines: &Lines) -> [u32; 3] {
+fn slow_answer(draft: &Draft, lines: &Lines) -> Answer {
     let ends: Vec<u32> = lines.iter().map(|line| end(line)).collect();
     if let Some(line) = (1..ends.len()).find(|&line| ends[line] != ends[0]) {
-        return [18, line as u32, 0];
+        return [18, line as u32, 0, 0];
     }
     let mut examined = 0;
     let tokens = |name: [u32; 2]| -> Vec<(i64, i64, u32)> {
@@ -293,12 +294,12 @@ fn slow_answer(draft: &Draft, lines: &Lines) -> [u32; 3] {
                 choices.iter().any(|c| a.tests.iter().all(|t| slow_test(t, c)))
             });
             if !met {
-                return [12, number as u32, trigger.2];
+                return [12, number as u32, trigger.2, 0];
             }
             examined += 1;
         }
     }
-    [0, examined, 0]
+    [0, examined, 0, 0]
 }
 
 fn slow_test(test: &[u32], chosen: &[(i64, i64, u32)]) -> bool {

@@ -86,7 +86,7 @@ fn counts(sheet: &Book<Constraint>, choices: &[Choice]) -> Result<[u64; 3], Answ
         let own = &sheet.alternatives[rule.alternatives.clone()];
         let sum: u64 = own.iter().map(|a| product(&choices[a.tests.clone()])).sum();
         if sum > u64::from(MAX_ALTERNATIVES) {
-            return Err([13, number, 0]);
+            return Err([13, number, 0, 0]);
         }
     }
     let mut sums = [0; 3];
@@ -100,7 +100,7 @@ fn counts(sheet: &Book<Constraint>, choices: &[Choice]) -> Result<[u64; 3], Answ
     }
     for (sum, table) in sums.iter().zip(3u32..) {
         if *sum > u64::from(COUNTS[table as usize].1) {
-            return Err([14, table, 0]);
+            return Err([14, table, 0, 0]);
         }
     }
     Ok(sums)
@@ -111,7 +111,7 @@ pub fn translate(sheet: &[u32], room: &mut [u32]) -> Answer {
     match book_of(sheet, room.len()) {
         Ok((words, alternatives)) => {
             room[..words.len()].copy_from_slice(&words);
-            [0, words.len() as u32, alternatives]
+            [0, words.len() as u32, alternatives, 0]
         }
         Err(answer) => answer,
     }
@@ -131,10 +131,10 @@ fn book_of(words: &[u32], room: usize) -> Result<(Vec<u32>, u32), Answer> {
     };
     let total = HEADER + (0..6).map(|t| count(t) * sizes[t]).sum::<usize>();
     if total > MAX_WORDS {
-        return Err([14, 6, 0]);
+        return Err([14, 6, 0, 0]);
     }
     if room < total {
-        return Err([15, total as u32, 0]);
+        return Err([15, total as u32, 0, 0]);
     }
 
     let mut out = Vec::with_capacity(total);

@@ -16,7 +16,7 @@ answerOf x =
     ∷ BookLength
     ∷ BookHeader (x .a)
     ∷ BookEnd
-    ∷ BookRecord (x .a) (x .b)
+    ∷ BookRecord (x .a) (x .b) (x .c)
     ∷ PlanLength
     ∷ PlanHeader (x .a)
     ∷ PlanEnd
@@ -51,7 +51,7 @@ answer-back (Done a b) = refl
 answer-back BookLength = refl
 answer-back (BookHeader word) = refl
 answer-back BookEnd = refl
-answer-back (BookRecord table row) = refl
+answer-back (BookRecord table row word) = refl
 answer-back PlanLength = refl
 answer-back (PlanHeader word) = refl
 answer-back PlanEnd = refl

@@ -1,4 +1,4 @@
--- The three numbers of each answer: the fault table of document 01, row by row. Assumes nothing.
+-- The four numbers of each answer: the fault table of document 01, row by row, with the word of a record from document 02. Assumes nothing.
 use mathlib.Core.Path.{_≡_, refl}
 use mathlib.Core.Bool.{Bool, true, false, cond}
 use mathlib.Core.Logic.{_↔_}
@@ -10,9 +10,13 @@ use Rattle.answers.specs.declared.Numbers.{Numbers}
 use Rattle.answers.specs.declared.Answer.{Answer}
 use Rattle.answers.specs.declared.Answer.the-variants.{Done, BookLength, BookHeader, BookEnd, BookRecord, PlanLength, PlanHeader, PlanEnd, ValueUnknown, DurationOutside, NotSuccessor, PastLastTick, RuleNotMet, TooManyAlternatives, TooLong, RoomTooShort, NoSuchTimeline, EndsApart, NoSuchAlternative, TableTooShort}
 
--- "Each answer is three numbers: number, a, b"
+-- "Each answer is three numbers: number, a, b"; "Refusal 4 gets one more number, c"
+abbrev pub numbersAt : ℕ → ℕ → ℕ → ℕ → Numbers
+numbersAt n a b c = record { number = n; a = a; b = b; c = c }
+
+-- "All other answers carry c = 0"
 abbrev pub numbers : ℕ → ℕ → ℕ → Numbers
-numbers n a b = record { number = n; a = a; b = b }
+numbers n a b = numbersAt n a b 0
 
 -- "those not named are 0"
 abbrev pub numbersOf : Answer → Numbers
@@ -20,7 +24,7 @@ numbersOf (Done a b) = numbers 0 a b
 numbersOf BookLength = numbers 1 0 0
 numbersOf (BookHeader word) = numbers 2 word 0
 numbersOf BookEnd = numbers 3 0 0
-numbersOf (BookRecord table row) = numbers 4 table row
+numbersOf (BookRecord table row word) = numbersAt 4 table row word
 numbersOf PlanLength = numbers 5 0 0
 numbersOf (PlanHeader word) = numbers 6 word 0
 numbersOf PlanEnd = numbers 7 0 0
@@ -65,9 +69,12 @@ stages x y = both (eqb (x .number) 0) refl
     both false e = (λ h. absurd (eqb-false _ _ e h), λ h. h .0)
 
 -- a stage that gives its fault where a test holds found none: the test doesn't hold
+pub stage-at : (t : Bool) (n x y z : ℕ) → cond t (numbersAt (suc n) x y z) noFault .number ≡ 0 → t ≡ false
+stage-at true n x y z h = absurd (omega arith)
+stage-at false n x y z h = refl
+
 pub stage : (t : Bool) (n x y : ℕ) → cond t (numbers (suc n) x y) noFault .number ≡ 0 → t ≡ false
-stage true n x y h = absurd (omega arith)
-stage false n x y h = refl
+stage t n x y = stage-at t n x y 0
 
 -- and one that gives its fault where a test doesn't hold: it holds
 pub held : (t : Bool) (n x y : ℕ) → cond t noFault (numbers (suc n) x y) .number ≡ 0 → t ≡ true

@@ -1,6 +1,6 @@
 // The answers of the judge, the translator and the reader: a case for each row of the fault table, and their numbers.
 ghost use mathlib.Core.Path.{_≡_};
-ghost use Rattle.answers.specs.Numbers.{numbers, numbersOf};
+ghost use Rattle.answers.specs.Numbers.{numbers, numbersAt, numbersOf};
 
 // What is wrong, and where; `Done` is the one way to be right, with the numbers that its function promises. No two cases share their
 // numbers, so a contract on the numbers settles the case.
@@ -9,7 +9,7 @@ pub enum Answer {
     BookLength,
     BookHeader { word: u32 },
     BookEnd,
-    BookRecord { table: u32, record: u32 },
+    BookRecord { table: u32, record: u32, word: u32 },
     PlanLength,
     PlanHeader { word: u32 },
     PlanEnd,
@@ -27,18 +27,26 @@ pub enum Answer {
     TableTooShort,
 }
 
-// The three numbers that an answer is shown as.
+// The four numbers that an answer is shown as.
 pub struct Numbers {
     pub number: u32,
     pub a: u32,
     pub b: u32,
+    pub c: u32,
 }
 
-// A row of the fault table.
+// A row of the fault table whose place ends with a word of a record.
+fn row_at(number: u32, a: u32, b: u32, c: u32) -> Numbers
+    ensures { λ n. ⌜ n ≡ numbersAt number a b c ⌝ }
+{
+    Numbers { number, a, b, c }
+}
+
+// Any other row.
 fn row(number: u32, a: u32, b: u32) -> Numbers
     ensures { λ n. ⌜ n ≡ numbers number a b ⌝ }
 {
-    Numbers { number, a, b }
+    row_at(number, a, b, 0)
 }
 
 // The numbers of an answer.
@@ -50,7 +58,7 @@ pub fn numbers_of(r: Answer) -> Numbers
         Answer::BookLength => row(1, 0, 0),
         Answer::BookHeader { word } => row(2, word, 0),
         Answer::BookEnd => row(3, 0, 0),
-        Answer::BookRecord { table, record } => row(4, table, record),
+        Answer::BookRecord { table, record, word } => row_at(4, table, record, word),
         Answer::PlanLength => row(5, 0, 0),
         Answer::PlanHeader { word } => row(6, word, 0),
         Answer::PlanEnd => row(7, 0, 0),

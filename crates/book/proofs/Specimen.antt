@@ -7,14 +7,14 @@ use Prim.Native.Nat.{ℕ}
 use lib.Dec.{eqb}
 use lib.ListN.{take, drop, set, replicate}
 use Rattle.answers.specs.declared.Numbers.{Numbers}
-use Rattle.answers.specs.Numbers.{numbers, noFault, orElse}
+use Rattle.answers.specs.Numbers.{numbersAt, numbers, noFault, orElse}
 use Rattle.words.specs.Lists.{all}
 use Rattle.clock.specs.Clock.{noLimit}
 use Rattle.words.specs.Write.{puts}
-use Rattle.words.specs.Least.{least}
+use Rattle.words.specs.Least.{least, first}
 use Rattle.layout.specs.Layout.{fifthWidth, fifthMost, begins, headerWrong, starts, owner}
-use Rattle.records.specs.Wrong.{setWrong, valueTests, fifthTestsOf, fifthTests, recordWrong}
-use Rattle.book.specs.Fault.{leaves, tableWrong, lengthFault, headerFault, endFault, recordFault, bookFault}
+use Rattle.records.specs.Wrong.{setWrong, valueTests, fifthTestsOf, fifthTests, wrongWord, recordWrong}
+use Rattle.book.specs.Fault.{leaves, tableWrong, toldWord, lengthFault, headerFault, endFault, recordFault, bookFault}
 
 -- "Book E, 52 words"
 abbrev pub bookE : List ℕ
@@ -29,7 +29,7 @@ bookE =
 
 -- it is good
 pub E-good : bookFault 1 bookE ≡ noFault
-unfolding orElse least fifthWidth fifthMost begins headerWrong starts owner setWrong valueTests fifthTestsOf fifthTests recordWrong leaves tableWrong lengthFault headerFault endFault recordFault bookFault
+unfolding orElse least first fifthWidth fifthMost begins headerWrong starts owner setWrong valueTests fifthTestsOf fifthTests wrongWord recordWrong leaves tableWrong toldWord lengthFault headerFault endFault recordFault bookFault
 E-good = refl
 
 -- "E's rule as a sheet (trigger, name 1, set 864), 43 words"
@@ -73,47 +73,47 @@ specimens =
     ∷ (1, set (bookE ++ (0 ∷ [])) 1 53, numbers 3 0 0)
     ∷ (1, set bookE 12 1, numbers 3 0 0)
     -- variables: a range that starts elsewhere, is empty, runs past the count, doesn't use up the values
-    ∷ (1, set bookE 16 1, numbers 4 0 1)
-    ∷ (1, set bookE 15 0, numbers 4 0 0)
-    ∷ (1, set bookE 17 3, numbers 4 0 1)
-    ∷ (1, set bookE 17 1, numbers 4 0 2)
+    ∷ (1, set bookE 16 1, numbersAt 4 0 1 0)
+    ∷ (1, set bookE 15 0, numbersAt 4 0 0 1)
+    ∷ (1, set bookE 17 3, numbersAt 4 0 1 1)
+    ∷ (1, set bookE 17 1, numbersAt 4 0 2 0)
     -- values: least, greatest, successors
-    ∷ (1, set bookE 18 0, numbers 4 1 0)
-    ∷ (1, set bookE 28 4, numbers 4 1 3)
-    ∷ (1, set bookE 28 1000000001, numbers 4 1 3)
-    ∷ (1, set bookE 23 4, numbers 4 1 1)
+    ∷ (1, set bookE 18 0, numbersAt 4 1 0 0)
+    ∷ (1, set bookE 28 4, numbersAt 4 1 3 1)
+    ∷ (1, set bookE 28 1000000001, numbersAt 4 1 3 1)
+    ∷ (1, set bookE 23 4, numbersAt 4 1 1 2)
     -- rules: trigger variable, trigger value, alternatives
-    ∷ (1, set bookE 30 2, numbers 4 2 0)
-    ∷ (1, set bookE 31 2, numbers 4 2 0)
-    ∷ (1, set bookE 30 noLimit, numbers 4 2 0)
-    ∷ (1, set bookE 33 0, numbers 4 2 0)
-    ∷ (1, moreE, numbers 4 2 1)
+    ∷ (1, set bookE 30 2, numbersAt 4 2 0 0)
+    ∷ (1, set bookE 31 2, numbersAt 4 2 0 1)
+    ∷ (1, set bookE 30 noLimit, numbersAt 4 2 0 1)
+    ∷ (1, set bookE 33 0, numbersAt 4 2 0 3)
+    ∷ (1, moreE, numbersAt 4 2 1 0)
     -- alternatives: names and atoms, and both used up
-    ∷ (1, set bookE 35 5, numbers 4 3 0)
-    ∷ (1, set bookE 36 1, numbers 4 3 0)
-    ∷ (1, set bookE 37 3, numbers 4 3 0)
-    ∷ (1, set bookE 35 0, numbers 4 3 1)
-    ∷ (1, set bookE 37 1, numbers 4 3 1)
+    ∷ (1, set bookE 35 5, numbersAt 4 3 0 1)
+    ∷ (1, set bookE 36 1, numbersAt 4 3 0 2)
+    ∷ (1, set bookE 37 3, numbersAt 4 3 0 3)
+    ∷ (1, set bookE 35 0, numbersAt 4 3 1 0)
+    ∷ (1, set bookE 37 1, numbersAt 4 3 1 0)
     -- names
-    ∷ (1, set bookE 38 2, numbers 4 4 0)
-    ∷ (1, set bookE 39 2, numbers 4 4 0)
+    ∷ (1, set bookE 38 2, numbersAt 4 4 0 0)
+    ∷ (1, set bookE 39 2, numbersAt 4 4 0 1)
     -- atoms: kind, argument, trigger, bounds
-    ∷ (1, set bookE 40 3, numbers 4 5 0)
-    ∷ (1, set bookE 47 2, numbers 4 5 1)
-    ∷ (1, freeE, numbers 4 5 0)
+    ∷ (1, set bookE 40 3, numbersAt 4 5 0 0)
+    ∷ (1, set bookE 47 2, numbersAt 4 5 1 1)
+    ∷ (1, freeE, numbersAt 4 5 0 3)
     ∷ (1, set bookE 46 2, noFault)
-    ∷ (1, puts bookE 46 (2 ∷ 1000000001 ∷ []), numbers 4 5 1)
-    ∷ (1, set bookE 50 1000000001, numbers 4 5 1)
-    ∷ (1, puts bookE 50 (5 ∷ 4 ∷ []), numbers 4 5 1)
+    ∷ (1, puts bookE 46 (2 ∷ 1000000001 ∷ []), numbersAt 4 5 1 1)
+    ∷ (1, set bookE 50 1000000001, numbersAt 4 5 1 4)
+    ∷ (1, puts bookE 50 (5 ∷ 4 ∷ []), numbersAt 4 5 1 5)
     -- constraints: token, set
-    ∷ (2, set sheetE 41 2, numbers 4 5 0)
-    ∷ (2, set sheetE 42 0, numbers 4 5 0)
-    ∷ (2, set sheetE 42 8192, numbers 4 5 0)
+    ∷ (2, set sheetE 41 2, numbersAt 4 5 0 1)
+    ∷ (2, set sheetE 42 0, numbersAt 4 5 0 2)
+    ∷ (2, set sheetE 42 8192, numbersAt 4 5 0 2)
     ∷ []
 
 -- two answers are the same
 abbrev pub same : Numbers → Numbers → Bool
-same x y = eqb (x .number) (y .number) && eqb (x .a) (y .a) && eqb (x .b) (y .b)
+same x y = eqb (x .number) (y .number) && eqb (x .a) (y .a) && eqb (x .b) (y .b) && eqb (x .c) (y .c)
 
 -- the answer is as stated
 abbrev pub answered : ℕ × List ℕ × Numbers → Bool
@@ -121,5 +121,5 @@ answered s = same (bookFault (s .0) (s .1)) (s .2)
 
 -- THE CLAIM: every specimen is answered so
 pub all-answered : all answered specimens ≡ true
-unfolding all orElse least fifthWidth fifthMost begins headerWrong starts owner setWrong valueTests fifthTestsOf fifthTests recordWrong leaves tableWrong lengthFault headerFault endFault recordFault bookFault
+unfolding all orElse least first fifthWidth fifthMost begins headerWrong starts owner setWrong valueTests fifthTestsOf fifthTests wrongWord recordWrong leaves tableWrong toldWord lengthFault headerFault endFault recordFault bookFault
 all-answered = refl

@@ -4,11 +4,11 @@ use mathlib.Core.List.{List}
 use Prim.Native.Nat.{ℕ, _≤_, _<_}
 use borrow.Author.Tests.{lt-ltb, le-ltb}
 use Rattle.answers.specs.declared.Numbers.{Numbers}
-use Rattle.answers.specs.Numbers.{numbers, noFault, orElse, else-fault, else-next}
+use Rattle.answers.specs.Numbers.{numbersAt, noFault, orElse, else-fault, else-next}
 use Rattle.layout.specs.Fault.{layoutFault}
 use Rattle.layout.specs.Owner.{Within}
 use Rattle.layout.proofs.Order.{else-else, all-within}
-use Rattle.book.specs.Fault.{lengthFault, headerFault, endFault, lowest, firstTable, recordFault, bookFault}
+use Rattle.book.specs.Fault.{lengthFault, headerFault, endFault, lowest, firstTable, toldWord, recordFault, bookFault}
 
 module _ (e : ℕ) (b : List ℕ) where
   by-layout : bookFault e b ≡ orElse (layoutFault e b) (recordFault e b)
@@ -35,9 +35,9 @@ module _ (e : ℕ) (b : List ℕ) where
       records-next : bookFault e b ≡ recordFault e b
       records-next = by-layout ∙ else-next _ _ none
 
-      pub record-wrong : (t i : ℕ) → t ≡ firstTable e b → t < 6 → i ≡ lowest e b t → numbers 4 t i ≡ bookFault e b
+      pub record-wrong : (t i j : ℕ) → t ≡ firstTable e b → t < 6 → i ≡ lowest e b t → j ≡ toldWord e b t i → numbersAt 4 t i j ≡ bookFault e b
       unfolding recordFault
-      record-wrong t i first l bad = rw records-next (rw (← first, lt-ltb t 6 l, bad))
+      record-wrong t i j first l bad told = rw records-next (rw (← first, lt-ltb t 6 l, told, bad))
 
       pub records-right : (t : ℕ) → t ≡ firstTable e b → 6 ≤ t → noFault ≡ bookFault e b
       unfolding recordFault

@@ -6,12 +6,12 @@ use Prim.Native.Nat.{ℕ}
 use lib.Dec.{ltb}
 use lib.ListN.{getD}
 use Rattle.answers.specs.declared.Numbers.{Numbers}
-use Rattle.answers.specs.Numbers.{numbers, noFault, orElse}
+use Rattle.answers.specs.Numbers.{numbersAt, noFault, orElse}
 use Rattle.words.specs.Least.{least}
 use Rattle.layout.specs.Layout.{count, unused}
 pub use Rattle.layout.specs.Fault.{firstHeader}
 unfoldable pub use Rattle.layout.specs.Fault.{lengthFault, headerFault, endFault}
-use Rattle.records.specs.Wrong.{recordWrong}
+use Rattle.records.specs.Wrong.{wrongWord, recordWrong}
 
 -- the ranges of table t "don't use up the next table"
 unfoldable pub leaves : ℕ → List ℕ → ℕ → Bool
@@ -29,8 +29,15 @@ tableWrong e b t = ltb (lowest e b t) (count b t) || leaves e b t
 abbrev pub firstTable : ℕ → List ℕ → ℕ
 firstTable e b = least 6 (tableWrong e b)
 
+-- "the first word of the record .. that is wrong"; "Where the record number equals the table's count, c is 0"
+unfoldable pub toldWord : ℕ → List ℕ → ℕ → ℕ → ℕ
+toldWord e b t i = cond (ltb i (count b t)) (wrongWord e b t i) 0
+
+abbrev pub recordNumbers : ℕ → List ℕ → ℕ → Numbers
+recordNumbers e b t = numbersAt 4 t (lowest e b t) (toldWord e b t (lowest e b t))
+
 unfoldable pub recordFault : ℕ → List ℕ → Numbers
-recordFault e b = cond (ltb (firstTable e b) 6) (numbers 4 (firstTable e b) (lowest e b (firstTable e b))) noFault
+recordFault e b = cond (ltb (firstTable e b) 6) (recordNumbers e b (firstTable e b)) noFault
 
 -- "Fault numbers, in order of checking"
 unfoldable pub bookFault : ℕ → List ℕ → Numbers

@@ -4,9 +4,10 @@ ghost use mathlib.Core.Path.{_≡_};
 ghost use Prim.Native.Nat.{_<_, _≤_, _^_};
 ghost use lib.ListN.{length};
 ghost use Rattle.answers.specs.Numbers.{numbersOf};
-ghost use Rattle.layout.specs.Layout.{ending};
+ghost use Rattle.layout.specs.Layout.{count, ending};
 ghost use Rattle.layout.specs.Owner.{Within};
-ghost use Rattle.book.specs.Fault.{leaves, lowest, tableWrong, firstTable, bookFault};
+ghost use Rattle.records.specs.Wrong.{wrongWord};
+ghost use Rattle.book.specs.Fault.{leaves, lowest, tableWrong, firstTable, toldWord, bookFault};
 use answers::Answer;
 use layout::count_of;
 use layout::fifth_width;
@@ -14,9 +15,9 @@ use layout::offset_of;
 use layout::owner_from;
 use layout::unused_of;
 use layout::width_of;
-use records::fifth_wrong;
-use records::plain_wrong;
-use records::value_wrong;
+use records::fifth_word;
+use records::plain_word;
+use records::value_word;
 
 // The lowest bad record of a table that needs no owner, or its count.
 fn first_plain(b: &[u32], e: usize, t: usize) -> usize
@@ -28,7 +29,7 @@ fn first_plain(b: &[u32], e: usize, t: usize) -> usize
     let w = width_of(e, t);
     let mut i = 0;
     while i < n {
-        if plain_wrong(b, e, t, i, base + i * w) {
+        if plain_word(b, e, t, i, base + i * w) < w {
             return i;
         }
         i += 1;
@@ -47,7 +48,7 @@ fn first_value(b: &[u32], e: usize) -> usize
     let mut i = 0;
     while i < n {
         v = owner_from(b, e, 0, 0, i, v);
-        if value_wrong(b, e, i, base + i * 3, v) {
+        if value_word(b, e, i, base + i * 3, v) < 3 {
             return i;
         }
         i += 1;
@@ -69,7 +70,7 @@ fn first_fifth(b: &[u32], e: usize) -> usize
     while i < n {
         a = owner_from(b, e, 3, 2, i, a);
         r = owner_from(b, e, 2, 2, a, r);
-        if fifth_wrong(b, e, i, base + i * w, a, r) {
+        if fifth_word(b, e, i, base + i * w, a, r) < w {
             return i;
         }
         i += 1;
@@ -131,6 +132,37 @@ fn first_table(b: &[u32], e: usize) -> usize
     t
 }
 
+// The first wrong word of record i of table t. It is asked once, of a record that is told, so its owners are looked for from the start.
+fn first_word(b: &[u32], e: usize, t: usize, i: usize) -> usize
+    requires { ⌜ (t < 6) × Within e (now b) × (i < count (now b) t) × (i < 2 ^ 32) ⌝ }
+    ensures { λ r. ⌜ (r ≡ wrongWord e (now (b .entry)) t i) × (r < 8) ⌝ }
+{
+    let base = offset_of(b, t);
+    let w = width_of(e, t);
+    let at = base + i * w;
+    if t == 1 {
+        let v = owner_from(b, e, 0, 0, i, 0);
+        return value_word(b, e, i, at, v);
+    }
+    if t == 5 {
+        let a = owner_from(b, e, 3, 2, i, 0);
+        let r = owner_from(b, e, 2, 2, a, 0);
+        return fifth_word(b, e, i, at, a, r);
+    }
+    plain_word(b, e, t, i, at)
+}
+
+// The word that is told of record i of table t: 0 for the table's count, which is no record.
+fn told_word(b: &[u32], e: usize, t: usize, i: usize) -> usize
+    requires { ⌜ (t < 6) × Within e (now b) × (i < 2 ^ 32) ⌝ }
+    ensures { λ r. ⌜ (r ≡ toldWord e (now (b .entry)) t i) × (r < 8) ⌝ }
+{
+    if i < count_of(b, t) {
+        return first_word(b, e, t, i);
+    }
+    0
+}
+
 // What is wrong with a book, if e is 1, or with a sheet, if e is 2: the first of answers 1 to 4 that fits, or no fault.
 pub fn check(b: &[u32], e: usize) -> Answer
     ensures { λ r. ⌜ numbersOf r ≡ bookFault e (now (b .entry)) ⌝ }
@@ -142,9 +174,11 @@ pub fn check(b: &[u32], e: usize) -> Answer
     let t = first_table(b, e);
     if t < 6 {
         let i = first_bad(b, e, t);
+        let j = told_word(b, e, t, i);
         return Answer::BookRecord {
             table: t as u32,
             record: i as u32,
+            word: j as u32,
         };
     }
     Answer::Done { a: 0, b: 0 }

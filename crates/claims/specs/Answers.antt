@@ -1,4 +1,4 @@
--- Demand 1: every input has an answer, and it is one of those listed in the fault table, with a and b where the table names them. Faults,
+-- Demand 1: every input has an answer, and it is one of those listed in the fault table, with a, b and c where the table names them. Faults,
 -- FaultsOfRules and Accepted say of each in which case, so that its place is in range; Examples has an input for each; OneAnswer shows that
 -- there is one only. For the judge and for the direct judge alike. Assumes nothing.
 use mathlib.Core.Path.{_≡_, refl, sym, subst}
@@ -13,10 +13,10 @@ use lib.ListN.{length, getD}
 use Rattle.answers.specs.declared.Numbers.{Numbers}
 use Rattle.answers.specs.declared.Answer.{Answer}
 use Rattle.answers.specs.declared.Answer.the-variants.{Done, BookLength, BookHeader, BookEnd, BookRecord, PlanLength, PlanHeader, PlanEnd, ValueUnknown, DurationOutside, NotSuccessor, PastLastTick, RuleNotMet, EndsApart}
-use Rattle.answers.specs.Numbers.{numbers, numbersOf, noFault, orElse, else-fault, else-next}
+use Rattle.answers.specs.Numbers.{numbersAt, numbers, numbersOf, noFault, orElse, else-fault, else-next}
 use Rattle.words.specs.Least.{first}
 use Rattle.layout.specs.Layout.{count, ending}
-use Rattle.book.specs.Fault.{lowest}
+use Rattle.book.specs.Fault.{lowest, toldWord}
 use Rattle.book.specs.Rules.{Rule, rulesOf}
 use Rattle.book.specs.Encode.{atoms, constraints}
 use Rattle.book.specs.Fault as book
@@ -32,7 +32,7 @@ pub data Listed : Numbers → Type 0 where
   bookLength : Listed (numbers 1 0 0)
   bookHeader : (word : ℕ) → Listed (numbers 2 word 0)
   bookEnd : Listed (numbers 3 0 0)
-  bookRecord : (table row : ℕ) → Listed (numbers 4 table row)
+  bookRecord : (table row word : ℕ) → Listed (numbersAt 4 table row word)
   planLength : Listed (numbers 5 0 0)
   planHeader : (word : ℕ) → Listed (numbers 6 word 0)
   planEnd : Listed (numbers 7 0 0)
@@ -109,7 +109,7 @@ module _ (e : ℕ) (b p : List ℕ) where
         next _ _ (given (ltb (length b) 14 || ltb 16384 (length b)) _ bookLength)
         (next _ _ (given (ltb k 14) _ (bookHeader k))
         (next _ _ (ended (eqb (ending e b 5) (length b)) _ bookEnd)
-        (next _ _ (given (ltb t 6) _ (bookRecord t (lowest e b t)))
+        (next _ _ (given (ltb t 6) _ (bookRecord t (lowest e b t) (toldWord e b t (lowest e b t))))
         (next _ _ (given (ltb (length p) (3 + 2 * count b 0) || ltb 16384 (length p)) _ planLength)
         (next _ _ (given (ltb h (3 + 2 * count b 0)) _ (planHeader h))
         (next _ _ (ended (eqb (3 + 2 * count b 0 + 2 * plan.sumBefore p (count b 0)) (length p)) _ planEnd)
@@ -132,7 +132,7 @@ pub has-answer : {x : Numbers} → Listed x → (r : Answer) × (numbersOf r ≡
 has-answer bookLength = (BookLength, refl)
 has-answer (bookHeader word) = (BookHeader word, refl)
 has-answer bookEnd = (BookEnd, refl)
-has-answer (bookRecord table row) = (BookRecord table row, refl)
+has-answer (bookRecord table row word) = (BookRecord table row word, refl)
 has-answer planLength = (PlanLength, refl)
 has-answer (planHeader word) = (PlanHeader word, refl)
 has-answer planEnd = (PlanEnd, refl)

@@ -1,7 +1,7 @@
 -- No claim here rests on an "if" that no input meets: for each row of the fault table there is an input that gets it, out of the table of
 -- Specimens, and so what the row says is so of that input. Assumes nothing.
 use mathlib.Core.Path.{_≡_, ap, _∙_}
-use mathlib.Core.Bool.{true}
+use mathlib.Core.Bool.{true, _&&_}
 use mathlib.Core.List.{List, [], _∷_}
 use Prim.Native.Nat.{ℕ, _<_}
 use native.Mathlib.Omega.{arith}
@@ -9,7 +9,7 @@ use lib.Dec.{eqb}
 use lib.ListN.{length, getD, take, set}
 use borrow.Author.Tests.{eqb-true}
 use Rattle.answers.specs.declared.Numbers.{Numbers}
-use Rattle.answers.specs.Numbers.{numbers}
+use Rattle.answers.specs.Numbers.{numbersAt, numbers}
 use Rattle.words.specs.Lists.{all, All}
 use Rattle.book.specs.Rules.{rulesOf}
 use Rattle.book.specs.Encode.{atoms, constraints}
@@ -39,12 +39,17 @@ row = all-at (λ (s : Specimen). stands s ≡ true) (stretches 0 0 0 0 0) specim
 -- two answers with the same numbers are the same
 same-is : (x y : Numbers) → same x y ≡ true → x ≡ y
 same-is x y h =
-    let q = and-so _ _ .0 h in
+    let p = and-so _ _ .0 h in
+    let q = and-so (eqb (x .number) (y .number) && eqb (x .a) (y .a)) (eqb (x .b) (y .b)) .0 (p .0) in
     let r = and-so (eqb (x .number) (y .number)) (eqb (x .a) (y .a)) .0 (q .0) in
     let n = eqb-true _ _ (r .0) in
     let a = eqb-true _ _ (r .1) in
     let b = eqb-true _ _ (q .1) in
-    ap (λ (k : ℕ). numbers k (x .a) (x .b)) n ∙ ap (λ (k : ℕ). numbers (y .number) k (x .b)) a ∙ ap (λ (k : ℕ). numbers (y .number) (y .a) k) b
+    let c = eqb-true _ _ (p .1) in
+    ap (λ (k : ℕ). numbersAt k (x .a) (x .b) (x .c)) n
+    ∙ ap (λ (k : ℕ). numbersAt (y .number) k (x .b) (x .c)) a
+    ∙ ap (λ (k : ℕ). numbersAt (y .number) (y .a) k (x .c)) b
+    ∙ ap (λ (k : ℕ). numbersAt (y .number) (y .a) (y .b) k) c
 
 -- the rows 1 to 12, 18 and 0 of the fault table, each with an input that gets it
 pub examples :
@@ -85,6 +90,13 @@ examples = (
   same-is _ _ (row 5 (omega arith)),
 )
 
+-- row 4 with a word that isn't the record's first, by a book and by a sheet
+pub word-example : judged (set bookE 51 4294967294) planP2 ≡ numbersAt 4 5 1 5
+word-example = same-is _ _ (row 32 (omega arith))
+
+pub word-sheet-example : judgedSheet (set sheetE 42 8192) planP2 ≡ numbersAt 4 5 0 2
+word-sheet-example = same-is _ _ (row 33 (omega arith))
+
 -- the direct judge's rows 12 and 0, and the translator's 0 and 15
 pub sheet-examples :
     (judgedSheet sheetE planP1 ≡ numbers 12 0 3)
@@ -118,7 +130,7 @@ pub listed-occurs : {x : Numbers} → Listed x → (b : List ℕ) × (p : List �
 listed-occurs bookLength = ([], planP2, ap (λ (r : Numbers). r .number) (examples .0))
 listed-occurs (bookHeader word) = (set bookE 13 41, planP2, ap (λ (r : Numbers). r .number) (examples .1))
 listed-occurs bookEnd = (set bookE 12 1, planP2, ap (λ (r : Numbers). r .number) (examples .2))
-listed-occurs (bookRecord table row) = (set bookE 30 2, planP2, ap (λ (r : Numbers). r .number) (examples .3))
+listed-occurs (bookRecord table row word) = (set bookE 51 4294967294, planP2, ap (λ (r : Numbers). r .number) word-example)
 listed-occurs planLength = (bookE, [], ap (λ (r : Numbers). r .number) (examples .5))
 listed-occurs (planHeader word) = (bookE, set planP2 6 513, ap (λ (r : Numbers). r .number) (examples .6))
 listed-occurs planEnd = (bookE, set (take 17 planP2) 1 17, ap (λ (r : Numbers). r .number) (examples .7))

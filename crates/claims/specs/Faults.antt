@@ -9,7 +9,7 @@ use Prim.Native.Nat.{ℕ, _+_, _*_, _≤_, _<_}
 use native.Mathlib.Omega.{arith}
 use lib.ListN.{length, getD, take}
 use Rattle.answers.specs.declared.Numbers.{Numbers}
-use Rattle.answers.specs.Numbers.{numbers, orElse}
+use Rattle.answers.specs.Numbers.{numbersAt, numbers, orElse}
 use Rattle.layout.specs.Layout.{count, ending}
 use Rattle.book.specs.Fault as book
 use Rattle.book.specs.Sound.{Sound}
@@ -36,10 +36,10 @@ pub record BookTable (e : ℕ) (b : List ℕ) (answer : Numbers) : Type 0 where
   pub fault-2 : (word : ℕ) → (answer ≡ numbers 2 word 0) ↔ (BookSized b × First 14 (HeaderWrong e b) word)
   -- 3 "table 5 doesn't end at the length"
   pub fault-3 : (answer ≡ numbers 3 0 0) ↔ (BookSized b × None 14 (HeaderWrong e b) × (ending e b 5 ≡ length b → ⊥))
-  -- 4 "bad record; tables 0 to 5, lowest record; a table only if those before are good"
-  pub fault-4 : (table row : ℕ) → (answer ≡ numbers 4 table row)
+  -- 4 "bad record; tables 0 to 5, lowest record; a table only if those before are good", and the record's first wrong word
+  pub fault-4 : (table row word : ℕ) → (answer ≡ numbersAt 4 table row word)
       ↔ (BookSized b × None 14 (HeaderWrong e b) × (ending e b 5 ≡ length b) × (table < 6)
-      × ((t : ℕ) → t < table → TableGood e b t) × TableBad e b table row)
+      × ((t : ℕ) → t < table → TableGood e b t) × TableBad e b table row word)
 
 -- and of an answer to a plan too
 pub record FaultTable (e : ℕ) (b p : List ℕ) (answer : Numbers) : Type 0 where
@@ -78,9 +78,9 @@ book-table e b after last own apart =
             λ h. let q = s .0 h in (sized-none e b .0 (q .0 .0), header-none e b .0 (q .0 .1 .0), m .0 (q .1)),
             λ h. s .1 ((sized-none e b .1 (h .0), (header-none e b .1 (h .1), tt)), m .1 (h .2)),
           );
-      fault-4 = λ t i.
-          let s = stage 3 (numbers 4 t i) (omega arith) (omega arith) (omega arith) (omega arith) in
-          let m = record-is e b t i in (
+      fault-4 = λ t i j.
+          let s = stage 3 (numbersAt 4 t i j) (omega arith) (omega arith) (omega arith) (omega arith) in
+          let m = record-is e b t i j in (
             λ h.
                 let q = s .0 h in
                 let r = m .0 (q .1) in

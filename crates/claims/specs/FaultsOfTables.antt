@@ -9,9 +9,9 @@ use lib.Dec.{ltb, eqb}
 use lib.ListN.{length}
 use borrow.Author.Tests.{ltb-true, ltb-false, lt-ltb, le-ltb, eqb-true, eqb-false}
 use Rattle.answers.specs.declared.Numbers.{Numbers}
-use Rattle.answers.specs.Numbers.{numbers, noFault, stages}
+use Rattle.answers.specs.Numbers.{numbersAt, numbers, noFault, stages}
 use Rattle.layout.specs.Layout.{count, ending, headerWrong}
-use Rattle.book.specs.Fault.{lowest, tableWrong}
+use Rattle.book.specs.Fault.{lowest, tableWrong, toldWord}
 use Rattle.book.specs.Fault as book
 use Rattle.layout.proofs.Tests.{or-right}
 use Rattle.book.proofs.Good.{good, good-back, no-number}
@@ -23,18 +23,25 @@ use Rattle.plan.specs.Fault as plan
 use Rattle.lines.specs.Good.{HeadGood}
 use Rattle.lines.proofs.Head.{head-good, head-back}
 use Rattle.claims.specs.Wrongs.{First, None, BookSized, HeaderWrong, TableGood, TableBad, PlanSized, HeadWrong, EndsApart}
-use Rattle.claims.specs.WrongTests.{or-so, none-is, first-is, header-iff, table-good, table-bad, head-iff}
+use Rattle.claims.specs.WrongTests.{or-so, none-is, first-is, header-iff, head-iff}
+use Rattle.claims.specs.RecordTests.{table-good, table-bad}
 
 -- ---- a stage opened
 
 module _ (n : ℕ) (some : 1 ≤ n) where
   -- the fault is given where the test holds
-  pub given : (t : Bool) (x y a c : ℕ) → (cond t (numbers n x y) noFault ≡ numbers n a c) ↔ ((t ≡ true) × (x ≡ a) × (y ≡ c))
-  given true x y a c = (
-    λ e. (refl, ap (λ (r : Numbers). r .a) e, ap (λ (r : Numbers). r .b) e),
-    λ h. rw (h .1, h .2),
+  pub given-at : (t : Bool) (x y z a c d : ℕ)
+      → (cond t (numbersAt n x y z) noFault ≡ numbersAt n a c d) ↔ ((t ≡ true) × (x ≡ a) × (y ≡ c) × (z ≡ d))
+  given-at true x y z a c d = (
+    λ e. (refl, ap (λ (r : Numbers). r .a) e, ap (λ (r : Numbers). r .b) e, ap (λ (r : Numbers). r .c) e),
+    λ h. rw (h .1, h .2, h .3),
   )
-  given false x y a c = (λ e. let z = ap (λ (r : Numbers). r .number) e in absurd (omega arith), λ h. absurd (false≢true (h .0)))
+  given-at false x y z a c d = (λ e. let w = ap (λ (r : Numbers). r .number) e in absurd (omega arith), λ h. absurd (false≢true (h .0)))
+
+  pub given : (t : Bool) (x y a c : ℕ) → (cond t (numbers n x y) noFault ≡ numbers n a c) ↔ ((t ≡ true) × (x ≡ a) × (y ≡ c))
+  given t x y a c =
+      let g = given-at t x y 0 a c 0 in
+      (λ e. let q = g .0 e in (q .0, q .1, q .2), λ h. g .1 (h .0, h .1, h .2, refl))
 
   pub not-given : (t : Bool) (x y : ℕ) → (cond t (numbers n x y) noFault .number ≡ 0) ↔ (t ≡ false)
   not-given true x y = (λ h. absurd (omega arith), λ h. absurd (true≢false h))
@@ -120,23 +127,30 @@ module _ (e : ℕ) (b : List ℕ) where
       let f = first-is 14 (headerWrong e b) (HeaderWrong e b) (header-iff e b) k in
       (λ h. let q = g .0 h in f .0 (q .0, q .1), λ h. let q = f .1 h in g .1 (q .0, q .1, refl))
 
-  pub record-is : (t i : ℕ) → (book.recordFault e b ≡ numbers 4 t i) ↔ ((t < 6) × ((u : ℕ) → u < t → TableGood e b u) × TableBad e b t i)
+  pub record-is : (t i j : ℕ)
+      → (book.recordFault e b ≡ numbersAt 4 t i j) ↔ ((t < 6) × ((u : ℕ) → u < t → TableGood e b u) × TableBad e b t i j)
   unfolding book.recordFault
-  record-is t i =
-      let g = given 4 (omega arith) (ltb (book.firstTable e b) 6) (book.firstTable e b) (lowest e b (book.firstTable e b)) t i in
+  record-is t i j =
+      let word : ℕ → ℕ = λ u. toldWord e b u (lowest e b u) in
+      let g = given-at 4 (omega arith) (ltb (book.firstTable e b) 6) (book.firstTable e b) (lowest e b (book.firstTable e b)) (word (book.firstTable e b)) t i j in
       let f = first-is 6 (tableWrong e b) (λ u. tableWrong e b u ≡ true) (λ u. (λ h. h, λ h. h)) t in
-      let right : (u : ℕ) → (tableWrong e b u ≡ true → ⊥) ↔ TableGood e b u = λ u. (
-        λ n. table-good e b u .0 (fails (tableWrong e b u) n),
-        λ s h. true≢false (sym h ∙ table-good e b u .1 s),
+      let right : (u : ℕ) → u < 6 → (tableWrong e b u ≡ true → ⊥) ↔ TableGood e b u = λ u k. (
+        λ n. table-good e b u k .0 (fails (tableWrong e b u) n),
+        λ s h. true≢false (sym h ∙ table-good e b u k .1 s),
       ) in (
         λ h.
             let q = g .0 h in
             let r = f .0 (q .0, q .1) in
-            (r .below, λ u l. right u .0 (r .before u l), table-bad e b t i .0 (r .here, ap (lowest e b) (sym (q .1)) ∙ q .2)),
+            let l = r .below in (
+              l,
+              λ u k. right u (omega arith) .0 (r .before u k),
+              table-bad e b t l i j .0 (r .here, ap (lowest e b) (sym (q .1)) ∙ q .2, ap word (sym (q .1)) ∙ q .3),
+            ),
         λ h.
-            let w = table-bad e b t i .1 (h .2) in
-            let q = f .1 (record { below = h .0; here = w .0; before = λ u l. right u .1 (h .1 u l) }) in
-            g .1 (q .0, q .1, ap (lowest e b) (q .1) ∙ w .1),
+            let l = h .0 in
+            let w = table-bad e b t l i j .1 (h .2) in
+            let q = f .1 (record { below = l; here = w .0; before = λ u k. right u (omega arith) .1 (h .1 u k) }) in
+            g .1 (q .0, q .1, ap (lowest e b) (q .1) ∙ w .1, ap word (q .1) ∙ w .2),
       )
     where
       fails : (x : Bool) → (x ≡ true → ⊥) → x ≡ false

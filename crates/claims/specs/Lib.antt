@@ -24,6 +24,7 @@ pub mod RunningSums
 pub mod Laws
 pub mod Stages
 pub mod WrongTests
+pub mod RecordTests
 pub mod FaultsOfTables
 pub mod FaultsOfTokens
 pub mod Timelines

@@ -7,15 +7,15 @@ use Prim.Native.Nat.{_+_}
 use lib.ListN.{replicate, set}
 use Rattle.answers.specs.declared.Numbers.{Numbers}
 use Rattle.answers.specs.declared.Answer.the-variants.{TooManyAlternatives, TooLong, RoomTooShort, NoSuchTimeline}
-use Rattle.answers.specs.Numbers.{numbers, numbersOf, noFault, orElse}
+use Rattle.answers.specs.Numbers.{numbersAt, numbers, numbersOf, noFault, orElse}
 use Rattle.words.specs.Lists.{any, all}
 use Rattle.words.specs.Words.{inSet}
 use Rattle.words.specs.Least.{least, first}
 use Rattle.words.specs.Runs.{run, rows}
 use Rattle.clock.specs.Clock.{inBounds}
 use Rattle.layout.specs.Layout.{fifthWidth, fifthMost, begins, headerWrong, starts, owner}
-use Rattle.records.specs.Wrong.{setWrong, valueTests, fifthTestsOf, fifthTests, recordWrong}
-use Rattle.book.specs.Fault.{leaves, tableWrong}
+use Rattle.records.specs.Wrong.{setWrong, valueTests, fifthTestsOf, fifthTests, wrongWord, recordWrong}
+use Rattle.book.specs.Fault.{leaves, tableWrong, toldWord}
 use Rattle.book.specs.Fault as book
 use Rattle.book.specs.Rules.{nameAt, atomAt, constraintAt, alternativeAt, ruleAt, rulesOf}
 use Rattle.book.specs.Encode.{bookOf}
@@ -72,84 +72,84 @@ headers =
     ∷ (book.endFault 1 (constraintSheet 0 1 1), numbers 3 0 0)
     ∷ []
 
--- 4, the numbers of a record
+-- 4, the numbers of a record, and which word is told
 abbrev records : List (Numbers × Numbers)
 records =
     -- "number of values (1..32)", of which the first counts from 0
     (book.bookFault 1 (valuesBook 0), numbers 2 4 0)
-    ∷ (book.recordFault 1 (valuesBook 0), numbers 4 0 0)
+    ∷ (book.recordFault 1 (valuesBook 0), numbersAt 4 0 0 1)
     ∷ (book.bookFault 1 (valuesBook 1), noFault)
     ∷ (book.bookFault 1 (valuesBook 32), noFault)
-    ∷ (book.bookFault 1 (valuesBook 33), numbers 4 0 0)
+    ∷ (book.bookFault 1 (valuesBook 33), numbersAt 4 0 0 1)
     -- "Least is 1..1,000,000,000"
-    ∷ (book.bookFault 1 (valueBook 0 N 3), numbers 4 1 0)
+    ∷ (book.bookFault 1 (valueBook 0 N 3), numbersAt 4 1 0 0)
     ∷ (book.bookFault 1 (valueBook 1 N 3), noFault)
     ∷ (book.bookFault 1 (valueBook last N 3), noFault)
-    ∷ (book.bookFault 1 (valueBook (last + 1) N 3), numbers 4 1 0)
+    ∷ (book.bookFault 1 (valueBook (last + 1) N 3), numbersAt 4 1 0 0)
     -- "greatest is least..1,000,000,000 or N"
-    ∷ (book.bookFault 1 (valueBook 5 4 3), numbers 4 1 0)
+    ∷ (book.bookFault 1 (valueBook 5 4 3), numbersAt 4 1 0 1)
     ∷ (book.bookFault 1 (valueBook 5 5 3), noFault)
     ∷ (book.bookFault 1 (valueBook 5 last 3), noFault)
-    ∷ (book.bookFault 1 (valueBook 5 (last + 1) 3), numbers 4 1 0)
-    ∷ (book.bookFault 1 (valueBook 5 4294967294 3), numbers 4 1 0)
+    ∷ (book.bookFault 1 (valueBook 5 (last + 1) 3), numbersAt 4 1 0 1)
+    ∷ (book.bookFault 1 (valueBook 5 4294967294 3), numbersAt 4 1 0 1)
     -- "no bit at or above the number of values"
     ∷ (book.bookFault 1 (valueBook 1 N 0), noFault)
-    ∷ (book.bookFault 1 (valueBook 1 N 4), numbers 4 1 0)
+    ∷ (book.bookFault 1 (valueBook 1 N 4), numbersAt 4 1 0 2)
     -- "trigger variable, trigger value": both exist, or N and 0
     ∷ (book.bookFault 1 (ruleBook 1 0 1 (table 1 (times 4 (0 ∷ []))) none none), noFault)
-    ∷ (book.bookFault 1 (ruleBook 1 1 0 (table 1 (times 4 (0 ∷ []))) none none), numbers 4 2 0)
-    ∷ (book.bookFault 1 (ruleBook 1 4294967294 0 (table 1 (times 4 (0 ∷ []))) none none), numbers 4 2 0)
-    ∷ (book.bookFault 1 (ruleBook 1 0 2 (table 1 (times 4 (0 ∷ []))) none none), numbers 4 2 0)
+    ∷ (book.bookFault 1 (ruleBook 1 1 0 (table 1 (times 4 (0 ∷ []))) none none), numbersAt 4 2 0 0)
+    ∷ (book.bookFault 1 (ruleBook 1 4294967294 0 (table 1 (times 4 (0 ∷ []))) none none), numbersAt 4 2 0 0)
+    ∷ (book.bookFault 1 (ruleBook 1 0 2 (table 1 (times 4 (0 ∷ []))) none none), numbersAt 4 2 0 1)
     ∷ (book.bookFault 1 (ruleBook 1 N 0 (table 1 (times 4 (0 ∷ []))) none none), noFault)
-    ∷ (book.bookFault 1 (ruleBook 1 N 1 (table 1 (times 4 (0 ∷ []))) none none), numbers 4 2 0)
+    ∷ (book.bookFault 1 (ruleBook 1 N 1 (table 1 (times 4 (0 ∷ []))) none none), numbersAt 4 2 0 1)
     -- "first alternative, number (1..64)"
-    ∷ (book.bookFault 1 (ruleBook 1 0 0 none none none), numbers 4 2 0)
+    ∷ (book.bookFault 1 (ruleBook 1 0 0 none none none), numbersAt 4 2 0 3)
     ∷ (book.bookFault 1 (ruleBook 1 0 0 (table 64 (times 256 (0 ∷ []))) none none), noFault)
-    ∷ (book.bookFault 1 (ruleBook 1 0 0 (table 65 (times 260 (0 ∷ []))) none none), numbers 4 2 0)
+    ∷ (book.bookFault 1 (ruleBook 1 0 0 (table 65 (times 260 (0 ∷ []))) none none), numbersAt 4 2 0 3)
     -- "first name, number (0..4)"; "variable, value"
     ∷ (book.bookFault 1 (namesBook 0), noFault)
     ∷ (book.bookFault 1 (namesBook 4), noFault)
-    ∷ (book.bookFault 1 (namesBook 5), numbers 4 3 0)
+    ∷ (book.bookFault 1 (namesBook 5), numbersAt 4 3 0 1)
     ∷ (book.bookFault 1 (nameBook 0 1), noFault)
-    ∷ (book.bookFault 1 (nameBook 1 0), numbers 4 4 0)
-    ∷ (book.bookFault 1 (nameBook 0 2), numbers 4 4 0)
+    ∷ (book.bookFault 1 (nameBook 1 0), numbersAt 4 4 0 0)
+    ∷ (book.bookFault 1 (nameBook 0 2), numbersAt 4 4 0 1)
     -- "first atom, number (0..32)"; "0..8 an alternative"
     ∷ (book.bookFault 1 (fifthBook 1 0 []), noFault)
     ∷ (book.bookFault 1 (fifthBook 1 32 (0 ∷ 0 ∷ 1 ∷ 0 ∷ 0 ∷ N ∷ [])), noFault)
-    ∷ (book.bookFault 1 (fifthBook 1 33 (0 ∷ 0 ∷ 1 ∷ 0 ∷ 0 ∷ N ∷ [])), numbers 4 3 0)
+    ∷ (book.bookFault 1 (fifthBook 1 33 (0 ∷ 0 ∷ 1 ∷ 0 ∷ 0 ∷ N ∷ [])), numbersAt 4 3 0 3)
     ∷ (book.bookFault 2 (fifthBook 2 0 []), noFault)
     ∷ (book.bookFault 2 (fifthBook 2 8 (0 ∷ 1 ∷ 1 ∷ [])), noFault)
-    ∷ (book.bookFault 2 (fifthBook 2 9 (0 ∷ 1 ∷ 1 ∷ [])), numbers 4 3 0)
+    ∷ (book.bookFault 2 (fifthBook 2 9 (0 ∷ 1 ∷ 1 ∷ [])), numbersAt 4 3 0 3)
     -- "A term's kind is 0 start of, 1 end of, 2 time point", on both sides
     ∷ (book.bookFault 1 (atomBook 0 1 0 0 0 N), noFault)
     ∷ (book.bookFault 1 (atomBook 1 1 1 0 0 N), noFault)
     ∷ (book.bookFault 1 (atomBook 2 0 2 0 0 N), noFault)
-    ∷ (book.bookFault 1 (atomBook 3 0 2 0 0 N), numbers 4 5 0)
-    ∷ (book.bookFault 1 (atomBook 2 0 3 0 0 N), numbers 4 5 0)
+    ∷ (book.bookFault 1 (atomBook 3 0 2 0 0 N), numbersAt 4 5 0 0)
+    ∷ (book.bookFault 1 (atomBook 2 0 3 0 0 N), numbersAt 4 5 0 2)
     -- "0 for the trigger or 1..n for the alternative's names; 0 is bad without a trigger"
-    ∷ (book.bookFault 1 (atomBook 0 2 2 0 0 N), numbers 4 5 0)
-    ∷ (book.bookFault 1 (atomBook 2 0 1 2 0 N), numbers 4 5 0)
+    ∷ (book.bookFault 1 (atomBook 0 2 2 0 0 N), numbersAt 4 5 0 1)
+    ∷ (book.bookFault 1 (atomBook 2 0 1 2 0 N), numbersAt 4 5 0 3)
     ∷ (book.bookFault 1 (freeAtom 1), noFault)
-    ∷ (book.bookFault 1 (freeAtom 0), numbers 4 5 0)
+    ∷ (book.bookFault 1 (freeAtom 0), numbersAt 4 5 0 1)
     -- "A time point is 0..1,000,000,000"
     ∷ (book.bookFault 1 (atomBook 2 last 2 last 0 N), noFault)
-    ∷ (book.bookFault 1 (atomBook 2 (last + 1) 2 0 0 N), numbers 4 5 0)
-    ∷ (book.bookFault 1 (atomBook 2 0 2 (last + 1) 0 N), numbers 4 5 0)
+    ∷ (book.bookFault 1 (atomBook 2 (last + 1) 2 0 0 N), numbersAt 4 5 0 1)
+    ∷ (book.bookFault 1 (atomBook 2 0 2 (last + 1) 0 N), numbersAt 4 5 0 3)
     -- "Lower is 0..1,000,000,000; upper is lower..1,000,000,000 or N"
     ∷ (book.bookFault 1 (atomBook 0 0 0 1 last N), noFault)
-    ∷ (book.bookFault 1 (atomBook 0 0 0 1 (last + 1) N), numbers 4 5 0)
-    ∷ (book.bookFault 1 (atomBook 0 0 0 1 5 4), numbers 4 5 0)
+    ∷ (book.bookFault 1 (atomBook 0 0 0 1 (last + 1) N), numbersAt 4 5 0 4)
+    ∷ (book.bookFault 1 (atomBook 0 0 0 1 5 4), numbersAt 4 5 0 5)
     ∷ (book.bookFault 1 (atomBook 0 0 0 1 5 5), noFault)
     ∷ (book.bookFault 1 (atomBook 0 0 0 1 0 last), noFault)
-    ∷ (book.bookFault 1 (atomBook 0 0 0 1 0 (last + 1)), numbers 4 5 0)
-    ∷ (book.bookFault 1 (atomBook 0 0 0 1 0 4294967294), numbers 4 5 0)
+    ∷ (book.bookFault 1 (atomBook 0 0 0 1 0 (last + 1)), numbersAt 4 5 0 5)
+    ∷ (book.bookFault 1 (atomBook 0 0 0 1 0 4294967294), numbersAt 4 5 0 5)
     -- "left token, right token (0 the trigger, as above), and a set, 1..8,191"
     ∷ (book.bookFault 2 (constraintSheet 1 1 1), noFault)
-    ∷ (book.bookFault 2 (constraintSheet 2 1 1), numbers 4 5 0)
-    ∷ (book.bookFault 2 (constraintSheet 1 2 1), numbers 4 5 0)
-    ∷ (book.bookFault 2 (constraintSheet 0 1 0), numbers 4 5 0)
+    ∷ (book.bookFault 2 (constraintSheet 2 1 1), numbersAt 4 5 0 0)
+    ∷ (book.bookFault 2 (constraintSheet 1 2 1), numbersAt 4 5 0 1)
+    ∷ (book.bookFault 2 (constraintSheet 0 1 0), numbersAt 4 5 0 2)
     ∷ (book.bookFault 2 (constraintSheet 0 1 8191), noFault)
-    ∷ (book.bookFault 2 (constraintSheet 0 1 8192), numbers 4 5 0)
+    ∷ (book.bookFault 2 (constraintSheet 0 1 8192), numbersAt 4 5 0 2)
     ∷ []
 
 -- 5 to 11, 17
@@ -217,5 +217,5 @@ translations =
 
 -- THE CLAIM: every row is as stated
 pub limits-stand : all (λ (row : Numbers × Numbers). same (row .0) (row .1)) (headers ++ records ++ plans ++ translations) ≡ true
-unfolding all any flatMap orElse least first run rows inSet inBounds fifthWidth fifthMost begins headerWrong starts owner setWrong valueTests fifthTestsOf fifthTests recordWrong leaves tableWrong book.lengthFault book.headerFault book.endFault book.recordFault book.bookFault nameAt atomAt constraintAt alternativeAt ruleAt rulesOf bookOf tokensFrom lineOf plan.lengthFault plan.sumBefore plan.headWrong plan.headFault plan.endFault plan.startOf plan.durationOutside plan.notSuccessor plan.tokenFault plan.tokenWrong plan.firstToken plan.lineWrong plan.tokensFault plan.planFault endFrom endsApart endsFault relationOf atomsOf put tokenTime timeOf atomHolds constraintHolds place alternativeMet met counted triggerLine isTrigger examined unmet firstUnmet ruleUnmet rulesFault judged keep relationsIn choices atomsFor expand translate rulesFor translated tooMany ruleFault sizeFault roomFault translation lineFault openFault
+unfolding all any flatMap orElse least first run rows inSet inBounds fifthWidth fifthMost begins headerWrong starts owner setWrong valueTests fifthTestsOf fifthTests wrongWord recordWrong leaves tableWrong toldWord book.lengthFault book.headerFault book.endFault book.recordFault book.bookFault nameAt atomAt constraintAt alternativeAt ruleAt rulesOf bookOf tokensFrom lineOf plan.lengthFault plan.sumBefore plan.headWrong plan.headFault plan.endFault plan.startOf plan.durationOutside plan.notSuccessor plan.tokenFault plan.tokenWrong plan.firstToken plan.lineWrong plan.tokensFault plan.planFault endFrom endsApart endsFault relationOf atomsOf put tokenTime timeOf atomHolds constraintHolds place alternativeMet met counted triggerLine isTrigger examined unmet firstUnmet ruleUnmet rulesFault judged keep relationsIn choices atomsFor expand translate rulesFor translated tooMany ruleFault sizeFault roomFault translation lineFault openFault
 limits-stand = refl

@@ -7,15 +7,15 @@ use Prim.Native.Nat.{ℕ}
 use lib.Dec.{eqb}
 use lib.ListN.{take, set}
 use Rattle.answers.specs.declared.Numbers.{Numbers}
-use Rattle.answers.specs.Numbers.{numbers, orElse}
+use Rattle.answers.specs.Numbers.{numbersAt, numbers, orElse}
 use Rattle.words.specs.Lists.{any, all}
 use Rattle.words.specs.Words.{inSet}
 use Rattle.words.specs.Least.{least, first}
 use Rattle.words.specs.Runs.{run, rows}
 use Rattle.clock.specs.Clock.{noLimit, inBounds}
 use Rattle.layout.specs.Layout.{fifthWidth, fifthMost, begins, headerWrong, starts, owner}
-use Rattle.records.specs.Wrong.{setWrong, valueTests, fifthTestsOf, fifthTests, recordWrong}
-use Rattle.book.specs.Fault.{leaves, tableWrong}
+use Rattle.records.specs.Wrong.{setWrong, valueTests, fifthTestsOf, fifthTests, wrongWord, recordWrong}
+use Rattle.book.specs.Fault.{leaves, tableWrong, toldWord}
 use Rattle.book.specs.Fault as book
 use Rattle.book.specs.Rules.{nameAt, atomAt, constraintAt, alternativeAt, ruleAt, rulesOf}
 use Rattle.book.specs.Encode.{bookOf}
@@ -125,9 +125,12 @@ specimens =
     ∷ bySheet sheetE planP1 (numbers 12 0 3)
     ∷ bySheet sheetE planP2 (numbers 0 2 0)
     ∷ bySheet sheetE (set planP2 14 4) (numbers 9 1 1)
+    -- 4 with a word: E's last upper bound, and the sheet's set
+    ∷ byBook (set bookE 51 4294967294) planP2 (numbersAt 4 5 1 5)
+    ∷ bySheet (set sheetE 42 8192) planP2 (numbersAt 4 5 0 2)
     ∷ []
 
 -- THE CLAIM: every specimen is as stated
 pub all-stand : all stands specimens ≡ true
-unfolding all any flatMap orElse least first run rows inSet inBounds fifthWidth fifthMost begins headerWrong starts owner setWrong valueTests fifthTestsOf fifthTests recordWrong leaves tableWrong book.lengthFault book.headerFault book.endFault book.recordFault book.bookFault nameAt atomAt constraintAt alternativeAt ruleAt rulesOf bookOf tokensFrom lineOf plan.lengthFault plan.sumBefore plan.headWrong plan.headFault plan.endFault plan.startOf plan.durationOutside plan.notSuccessor plan.tokenFault plan.tokenWrong plan.firstToken plan.lineWrong plan.tokensFault plan.planFault endFrom endsApart endsFault relationOf atomsOf put tokenTime timeOf atomHolds constraintHolds place alternativeMet met counted triggerLine isTrigger examined unmet firstUnmet ruleUnmet rulesFault judged judgedSheet keep relationsIn choices atomsFor expand translate rulesFor translated tooMany ruleFault sizeFault roomFault translation
+unfolding all any flatMap orElse least first run rows inSet inBounds fifthWidth fifthMost begins headerWrong starts owner setWrong valueTests fifthTestsOf fifthTests wrongWord recordWrong leaves tableWrong toldWord book.lengthFault book.headerFault book.endFault book.recordFault book.bookFault nameAt atomAt constraintAt alternativeAt ruleAt rulesOf bookOf tokensFrom lineOf plan.lengthFault plan.sumBefore plan.headWrong plan.headFault plan.endFault plan.startOf plan.durationOutside plan.notSuccessor plan.tokenFault plan.tokenWrong plan.firstToken plan.lineWrong plan.tokensFault plan.planFault endFrom endsApart endsFault relationOf atomsOf put tokenTime timeOf atomHolds constraintHolds place alternativeMet met counted triggerLine isTrigger examined unmet firstUnmet ruleUnmet rulesFault judged judgedSheet keep relationsIn choices atomsFor expand translate rulesFor translated tooMany ruleFault sizeFault roomFault translation
 all-stand = refl

@@ -11,14 +11,14 @@ use lib.Dec.{ltb, leb, eqb}
 use lib.ListN.{length, getD, take}
 use borrow.Author.Tests.{leb-true}
 use Rattle.answers.specs.declared.Numbers.{Numbers}
-use Rattle.answers.specs.Numbers.{numbers, noFault, orElse, else-fault, else-next}
+use Rattle.answers.specs.Numbers.{numbersAt, numbers, noFault, orElse, else-fault, else-next}
 use Rattle.words.specs.Lists.{All, all}
 use Rattle.words.specs.Least.{first}
 use Rattle.clock.specs.Clock.{lastTick}
 use Rattle.layout.specs.Layout.{count, ending}
 use Rattle.book.specs.Rules.{Rule}
 use Rattle.records.specs.Wrong.{valueUnknown}
-use Rattle.book.specs.Fault.{lowest}
+use Rattle.book.specs.Fault.{lowest, toldWord}
 use Rattle.book.specs.Fault as book
 use Rattle.lines.specs.declared.Token.{Token}
 use Rattle.lines.specs.Ends.{firstApart, endsFault}
@@ -205,9 +205,12 @@ abbrev pub lastStage : Numbers → Stage
 lastStage last = stage 12 13 last
 
 -- a test with its number
+own-at : (t : Bool) (n x y z : ℕ) → Own n (suc n) (cond t (numbersAt n x y z) noFault)
+own-at true n x y z = inr (omega arith, omega arith)
+own-at false n x y z = inl refl
+
 pub own-test : (t : Bool) (n x y : ℕ) → Own n (suc n) (cond t (numbers n x y) noFault)
-own-test true n x y = inr (omega arith, omega arith)
-own-test false n x y = inl refl
+own-test t n x y = own-at t n x y 0
 
 -- and a test that asks for an end
 own-end : (t : Bool) (n : ℕ) → Own n (suc n) (cond t noFault (numbers n 0 0))
@@ -250,7 +253,7 @@ book-owned e b after l h =
       h .0,
       (
         own-test (ltb (length b) 14 || ltb 16384 (length b)) 1 0 0,
-        (own-test (ltb n 14) 2 n 0, (own-end (eqb (ending e b 5) (length b)) 3, (own-test (ltb t 6) 4 t (lowest e b t), h .1))),
+        (own-test (ltb n 14) 2 n 0, (own-end (eqb (ending e b 5) (length b)) 3, (own-at (ltb t 6) 4 t (lowest e b t) (toldWord e b t (lowest e b t)), h .1))),
       ),
     )
 

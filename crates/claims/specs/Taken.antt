@@ -11,13 +11,13 @@ use lib.Dec.{ltb, eqb}
 use lib.ListN.{length}
 use borrow.Author.Tests.{ltb-false, lt-ltb, le-ltb}
 use Rattle.answers.specs.declared.Numbers.{Numbers}
-use Rattle.answers.specs.Numbers.{numbers, noFault, orElse, else-fault, else-next, stages}
+use Rattle.answers.specs.Numbers.{numbersAt, numbers, noFault, orElse, else-fault, else-next, stages}
 use Rattle.words.specs.Lists.{All}
 use Rattle.words.specs.Least.{first}
 use Rattle.book.specs.Rules.{Atom, Alternative, Rule}
 use Rattle.book.specs.Encode.{altsOf, namesOf, asksOf}
 use Rattle.layout.specs.Layout.{ending}
-use Rattle.book.specs.Fault.{lowest, firstHeader, firstTable, lengthFault, headerFault, endFault, recordFault, bookFault}
+use Rattle.book.specs.Fault.{firstHeader, firstTable, recordNumbers, lengthFault, headerFault, endFault, recordFault, bookFault}
 use Rattle.translator.specs.Translation.{rulesFor, translated, tooMany, ruleFault, sizeFault, roomFault, translation}
 use Rattle.claims.specs.Laws.{none-first}
 
@@ -60,7 +60,7 @@ stage-answer n some x y h =
 record Not16 (x : Numbers) : Type 0 where
   not : x .number ≡ 16 → ⊥
 
-row-16 : (n a b : ℕ) → (n ≡ 16 → ⊥) → Not16 (numbers n a b)
+row-16 : (n a b : ℕ) {c : ℕ} → (n ≡ 16 → ⊥) → Not16 (numbersAt n a b c)
 row-16 n a b h = record { not = h }
 
 none-16 : Not16 noFault
@@ -178,7 +178,7 @@ module _ (s : List ℕ) where
       neither (lengthFault s) _ (either (ltb (length s) 14 || ltb 16384 (length s)) (numbers 1 0 0) noFault (row-16 1 0 0 (λ e. omega arith)) none-16)
       (neither (headerFault 2 s) _ (either (ltb (firstHeader 2 s) 14) (numbers 2 (firstHeader 2 s) 0) noFault (row-16 2 _ 0 (λ e. omega arith)) none-16)
       (neither (endFault 2 s) (recordFault 2 s) (either (eqb (ending 2 s 5) (length s)) noFault (numbers 3 0 0) none-16 (row-16 3 0 0 (λ e. omega arith)))
-      (either (ltb t 6) (numbers 4 t (lowest 2 s t)) noFault (row-16 4 t _ (λ e. omega arith)) none-16)))
+      (either (ltb t 6) (recordNumbers 2 s t) noFault (row-16 4 t _ (λ e. omega arith)) none-16)))
 
   room-16 : (room : ℕ) → Not16 (roomFault s room)
   unfolding roomFault

@@ -1,22 +1,19 @@
--- The tests of the fault table's rows 1 to 7 say just what Wrongs says in plain facts. Assumes nothing.
+-- The tests of the fault table's rows 1 to 7 but 4 say just what Wrongs says in plain facts; RecordTests has those of 4. Assumes nothing.
 use mathlib.Core.Path.{_≡_, refl, sym, ap, _∙_, subst}
 use mathlib.Core.Bool.{Bool, true, false, _||_, not, true≢false, false≢true}
 use mathlib.Core.Logic.{_↔_, _⊎_, inl, inr, ⊎-elim}
-use mathlib.Core.List.{List, [], _∷_}
+use mathlib.Core.List.{List}
 use Prim.Native.Nat.{ℕ, zero, suc, _+_, _-_, _*_, _/_, _%_, _<_}
 use native.Mathlib.Decide.{ℕ-discrete}
 use native.Mathlib.Omega.{arith}
 use lib.Dec.{ltb, eqb}
-use lib.ListN.{getD}
 use borrow.Author.Tests.{ltb-true, ltb-false, lt-ltb, le-ltb, eqb-false, eq-eqb, ne-eqb, not-true}
 use Rattle.words.specs.Least.{least, Clear, least-law, least-at, least-end}
 use Rattle.layout.specs.Layout.{fewest, most, count, offset, begins, headerWrong, unused}
-use Rattle.records.specs.Wrong.{someWrong, recordTests, recordWrong}
-use Rattle.book.specs.Fault.{leaves, lowest, tableWrong}
-use Rattle.layout.proofs.Tests.{or-right}
+use Rattle.book.specs.Fault.{leaves}
 use Rattle.lines.specs.Lines.{lineFirst, lineCount}
 use Rattle.lines.specs.Fault.{sumBefore, headWrong}
-use Rattle.claims.specs.Wrongs.{First, None, HeaderWrong, edition, total, few, many, elsewhere, RecordWrong, Leaves, values, alternatives, names, asks, TableGood, TableBad, HeadWrong, timelines, first}
+use Rattle.claims.specs.Wrongs.{First, None, HeaderWrong, edition, total, few, many, elsewhere, Leaves, values, alternatives, names, asks, HeadWrong, timelines, first}
 
 -- ---- laws of tests
 
@@ -133,65 +130,6 @@ module _ (e : ℕ) (b : List ℕ) where
       back _ (alternatives h) = not-eq _ _ .1 h
       back _ (names h) = or-so (unused e b 3 0 4) (unused e b 3 2 5) .1 (inl (not-eq _ _ .1 h))
       back _ (asks h) = or-so (unused e b 3 0 4) (unused e b 3 2 5) .1 (inr (not-eq _ _ .1 h))
-
-  -- some word is wrong
-  some-wrong : (ws : List Bool) → (someWrong ws ≡ true) → (j : ℕ) × (getD ws j false ≡ true)
-  some-wrong [] h = absurd (false≢true h)
-  some-wrong (w ∷ []) h = (0, h)
-  some-wrong (w ∷ (v ∷ ws)) h =
-      ⊎-elim (λ q. (0, q)) (λ q. let s = some-wrong (v ∷ ws) q in (suc (s .0), s .1)) (or-so w (someWrong (v ∷ ws)) .0 h)
-
-  wrong-some : (ws : List Bool) (j : ℕ) → getD ws j false ≡ true → someWrong ws ≡ true
-  wrong-some [] j h = h
-  wrong-some (w ∷ []) zero h = h
-  wrong-some (w ∷ []) (suc j) h = absurd (false≢true h)
-  wrong-some (w ∷ (v ∷ ws)) zero h = or-so w (someWrong (v ∷ ws)) .1 (inl h)
-  wrong-some (w ∷ (v ∷ ws)) (suc j) h = or-so w (someWrong (v ∷ ws)) .1 (inr (wrong-some (v ∷ ws) j h))
-
-  -- each record
-  pub record-iff : (t i : ℕ) → (recordWrong e b t i ≡ true) ↔ RecordWrong e b t i
-  unfolding recordWrong
-  record-iff t i = (
-    λ h. let s = some-wrong (recordTests e b t i) h in record { at = s .0; wrong = s .1 },
-    λ w. wrong-some (recordTests e b t i) (w .at) (w .wrong),
-  )
-
-  -- each table: all is right, or which record is named
-  pub table-good : (t : ℕ) → (tableWrong e b t ≡ false) ↔ TableGood e b t
-  unfolding tableWrong
-  table-good t =
-      let o = or-right (ltb (lowest e b t) (count b t)) (leaves e b t) in
-      let n = none-is (count b t) (recordWrong e b t) (RecordWrong e b t) (record-iff t) in
-      let u = unless (leaves e b t) (Leaves e b t) (leaves-iff t) in (
-        λ h. record { records = n .0 (o .0 h .0); used = u .0 (o .0 h .1) },
-        λ g. o .1 (n .1 (g .records), u .1 (g .used)),
-      )
-
-  pub table-bad : (t i : ℕ) → ((tableWrong e b t ≡ true) × (lowest e b t ≡ i)) ↔ TableBad e b t i
-  unfolding tableWrong
-  table-bad t i =
-      let W : ℕ → Type 0 = RecordWrong e b t in
-      let p : ℕ → Bool = recordWrong e b t in
-      let o = or-so (ltb (lowest e b t) (count b t)) (leaves e b t) in
-      let f = first-is (count b t) p W (record-iff t) in
-      let n = none-is (count b t) p W (record-iff t) in
-      let l = leaves-iff t in (
-        λ h. by (ltb (lowest e b t) (count b t)) refl (h .1) (o .0 (h .0)),
-        λ h.
-            ⊎-elim (λ q. let r = f i .1 q in (o .1 (inl (r .0)), r .1))
-            (λ q. (o .1 (inr (l .1 (q .2))), none-least (count b t) p W (record-iff t) (q .1) ∙ sym (q .0)))
-            h,
-      )
-    where
-      by : (x : Bool) → ltb (lowest e b t) (count b t) ≡ x → lowest e b t ≡ i → (ltb (lowest e b t) (count b t) ≡ true) ⊎ (leaves e b t ≡ true) → TableBad e b t i
-      by true q s h = inl (first-is (count b t) (recordWrong e b t) (RecordWrong e b t) (record-iff t) i .0 (q, s))
-      by false q s h =
-          let none = none-is (count b t) (recordWrong e b t) (RecordWrong e b t) (record-iff t) .0 q in
-          inr (
-            sym s ∙ none-least (count b t) (recordWrong e b t) (RecordWrong e b t) (record-iff t) none,
-            none,
-            ⊎-elim (λ r. absurd (true≢false (sym r ∙ q))) (λ r. leaves-iff t .0 r) h,
-          )
 
 -- ---- the tests of a plan's words before its tokens
 

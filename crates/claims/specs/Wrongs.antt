@@ -1,14 +1,15 @@
--- What is wrong with a book, a sheet or a plan, in plain facts, row by row of 1 to 7 of the fault table. WrongTests shows that the tests say
--- just that. Assumes nothing.
+-- What is wrong with a book, a sheet or a plan, in plain facts, row by row of 1 to 7 of the fault table. WrongTests and RecordTests show that
+-- the tests say just that. Assumes nothing.
 use mathlib.Core.Path.{_≡_}
-use mathlib.Core.Bool.{true, false}
 use mathlib.Core.Logic.{_⊎_}
 use mathlib.Core.List.{List}
-use Prim.Native.Nat.{ℕ, _+_, _*_, _≤_, _<_}
-use lib.ListN.{length, getD}
+use Prim.Native.Nat.{ℕ, _+_, _*_, _^_, _≤_, _<_}
+use lib.ListN.{length}
 use Rattle.words.specs.Words.{word}
-use Rattle.layout.specs.Layout.{fewest, most, count, offset, begins, starts}
-use Rattle.records.specs.Wrong.{recordTests}
+use Rattle.clock.specs.Clock.{lastTick, noLimit}
+use Rattle.layout.specs.Layout.{fewest, most, width, count, offset, begins, recordAt, field, ends, starts, owner, valuesOf}
+use Rattle.records.specs.Wrong.{Range, valueRange, alternativeRange, nameRange, askRange}
+use Rattle.book.specs.Sound.{namesAt}
 use Rattle.lines.specs.Lines.{lineFirst, lineCount, lineOf}
 use Rattle.lines.specs.Ends.{lineEnd, planEnd}
 use Rattle.lines.specs.Fault.{sumBefore}
@@ -40,10 +41,75 @@ pub data HeaderWrong (e : ℕ) (b : List ℕ) : ℕ → Type 0 where
   many : (t : ℕ) → most t < count b t → HeaderWrong e b (2 + 2 * t)
   elsewhere : (t : ℕ) → (offset b t ≡ begins e b t → ⊥) → HeaderWrong e b (3 + 2 * t)
 
--- 4 "bad record": some word of record i of table t is wrong, as the tests of book's Wrong say of each word
-pub record RecordWrong (e : ℕ) (b : List ℕ) (t i : ℕ) : Type 0 where
-  pub at : ℕ
-  pub wrong : getD (recordTests e b t i) at false ≡ true
+-- "A record whose range starts elsewhere": its first word
+abbrev pub StartWrong : ℕ → List ℕ → Range → ℕ → Type 0
+StartWrong e b r i = field e b (r .table) i (r .word) ≡ starts e b (r .table) (r .word) i → ⊥
+
+-- "or runs past that table's count": its number, which also is least..most
+abbrev pub NumberWrong : ℕ → List ℕ → Range → ℕ → Type 0
+NumberWrong e b r i =
+    ((field e b (r .table) i (r .word + 1) < r .least) ⊎ (r .most < field e b (r .table) i (r .word + 1)))
+    ⊎ (count b (r .into) < ends e b (r .table) (r .word) i)
+
+-- the lower of two bounds x isn't lo..1,000,000,000; the upper y isn't x..1,000,000,000, nor N
+abbrev pub LowerWrong : ℕ → ℕ → Type 0
+LowerWrong lo x = (x < lo) ⊎ (lastTick < x)
+
+abbrev pub UpperWrong : ℕ → ℕ → Type 0
+UpperWrong x y = (y < x) ⊎ ((lastTick < y) × (y ≡ noLimit → ⊥))
+
+-- "0 for the trigger or 1..n for the alternative's names; 0 is bad without a trigger": x is neither, v being the rule's trigger variable
+abbrev pub NoToken : ℕ → ℕ → ℕ → Type 0
+NoToken n v x = (n < x) ⊎ ((x ≡ 0) × (v ≡ noLimit))
+
+-- "A time point is 0..1,000,000,000"; for 0 and 1 the argument is a token
+abbrev pub ArgumentWrong : ℕ → ℕ → ℕ → ℕ → Type 0
+ArgumentWrong n v kind x = ((kind ≡ 2) × (lastTick < x)) ⊎ ((kind < 2) × NoToken n v x)
+
+-- the trigger variable of the rule that record i of table 5 belongs to
+abbrev pub triggerOf : ℕ → List ℕ → ℕ → ℕ
+triggerOf e b i = field e b 2 (owner e b 2 2 (owner e b 3 2 i)) 0
+
+-- 4 what is wrong with which word of record i, by table and word, "given the words before it and the tables before"
+pub data WordWrong (e : ℕ) (b : List ℕ) (i : ℕ) : ℕ → ℕ → Type 0 where
+  -- "first value, number of values (1..32)"
+  valuesStart : StartWrong e b valueRange i → WordWrong e b i 0 0
+  valuesNumber : NumberWrong e b valueRange i → WordWrong e b i 0 1
+  -- "least duration, greatest, successor set"; "no bit at or above the number of values"
+  leastDuration : LowerWrong 1 (word b (recordAt e b 1 i)) → WordWrong e b i 1 0
+  greatestDuration : UpperWrong (word b (recordAt e b 1 i)) (field e b 1 i 1) → WordWrong e b i 1 1
+  successors : 2 ^ valuesOf e b (owner e b 0 0 i) ≤ field e b 1 i 2 → WordWrong e b i 1 2
+  -- "trigger variable, trigger value, first alternative, number (1..64)"; "N means no trigger; the trigger value is then 0. Otherwise both exist"
+  triggerVariable : (field e b 2 i 0 ≡ noLimit → ⊥) × (count b 0 ≤ field e b 2 i 0) → WordWrong e b i 2 0
+  triggerValue :
+      ((field e b 2 i 0 ≡ noLimit) × (field e b 2 i 1 ≡ 0 → ⊥))
+      ⊎ ((field e b 2 i 0 ≡ noLimit → ⊥) × (valuesOf e b (field e b 2 i 0) ≤ field e b 2 i 1))
+      → WordWrong e b i 2 1
+  alternativesStart : StartWrong e b alternativeRange i → WordWrong e b i 2 2
+  alternativesNumber : NumberWrong e b alternativeRange i → WordWrong e b i 2 3
+  -- "first name, number (0..4), first atom, number (0..32)", or "0..8" constraints
+  namesStart : StartWrong e b nameRange i → WordWrong e b i 3 0
+  namesNumber : NumberWrong e b nameRange i → WordWrong e b i 3 1
+  asksStart : StartWrong e b (askRange e) i → WordWrong e b i 3 2
+  asksNumber : NumberWrong e b (askRange e) i → WordWrong e b i 3 3
+  -- "variable, value": "both exist, as they must in a name"
+  nameVariable : count b 0 ≤ field e b 4 i 0 → WordWrong e b i 4 0
+  nameValue : valuesOf e b (field e b 4 i 0) ≤ field e b 4 i 1 → WordWrong e b i 4 1
+  -- a book's table 5: "left kind, left argument, right kind, right argument, lower, upper"
+  leftKind : (e ≡ 2 → ⊥) → 2 < word b (recordAt e b 5 i) → WordWrong e b i 5 0
+  leftArgument : (e ≡ 2 → ⊥) → ArgumentWrong (namesAt e b i) (triggerOf e b i) (word b (recordAt e b 5 i)) (field e b 5 i 1) → WordWrong e b i 5 1
+  rightKind : (e ≡ 2 → ⊥) → 2 < field e b 5 i 2 → WordWrong e b i 5 2
+  rightArgument : (e ≡ 2 → ⊥) → ArgumentWrong (namesAt e b i) (triggerOf e b i) (field e b 5 i 2) (field e b 5 i 3) → WordWrong e b i 5 3
+  lower : (e ≡ 2 → ⊥) → LowerWrong 0 (field e b 5 i 4) → WordWrong e b i 5 4
+  upper : (e ≡ 2 → ⊥) → UpperWrong (field e b 5 i 4) (field e b 5 i 5) → WordWrong e b i 5 5
+  -- a sheet's: "left token, right token (0 the trigger, as above), and a set, 1..8,191"
+  leftToken : e ≡ 2 → NoToken (namesAt e b i) (triggerOf e b i) (word b (recordAt e b 5 i)) → WordWrong e b i 5 0
+  rightToken : e ≡ 2 → NoToken (namesAt e b i) (triggerOf e b i) (field e b 5 i 1) → WordWrong e b i 5 1
+  relations : e ≡ 2 → (field e b 5 i 2 < 1) ⊎ (8191 < field e b 5 i 2) → WordWrong e b i 5 2
+
+-- "bad record": some word of it is wrong
+abbrev pub RecordWrong : ℕ → List ℕ → ℕ → ℕ → Type 0
+RecordWrong e b t i = (j : ℕ) × WordWrong e b i t j
 
 -- "don't use up the next table": variables their values, rules their alternatives, alternatives their names and what they ask
 pub data Leaves (e : ℕ) (b : List ℕ) : ℕ → Type 0 where
@@ -57,9 +123,12 @@ pub record TableGood (e : ℕ) (b : List ℕ) (t : ℕ) : Type 0 where
   pub records : None (count b t) (RecordWrong e b t)
   pub used : Leaves e b t → ⊥
 
--- "lowest record"; "record = its count if all are good but don't use up the next table"
-abbrev pub TableBad : ℕ → List ℕ → ℕ → ℕ → Type 0
-TableBad e b t i = First (count b t) (RecordWrong e b t) i ⊎ ((i ≡ count b t) × None (count b t) (RecordWrong e b t) × Leaves e b t)
+-- "lowest record", and "the first word of the record, counted from 0, that is wrong"; "record = its count if all are good but don't use up
+-- the next table", and "Where the record number equals the table's count, c is 0"
+abbrev pub TableBad : ℕ → List ℕ → ℕ → ℕ → ℕ → Type 0
+TableBad e b t i j =
+    (First (count b t) (RecordWrong e b t) i × First (width e t) (WordWrong e b i t) j)
+    ⊎ ((i ≡ count b t) × None (count b t) (RecordWrong e b t) × Leaves e b t × (j ≡ 0))
 
 -- ---- what is wrong with a plan, before its tokens
 

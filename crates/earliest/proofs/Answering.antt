@@ -9,7 +9,7 @@ use native.Mathlib.Omega.{arith}
 use lib.ListN.{length, getD}
 use borrow.Author.Tests.{eq-eqb, ne-eqb}
 use Rattle.answers.specs.declared.Numbers.{Numbers}
-use Rattle.answers.specs.Numbers.{numbers}
+use Rattle.answers.specs.Numbers.{numbersAt, numbers}
 use Rattle.words.specs.Words.{word}
 use Rattle.words.specs.Runs.{length-run}
 use Rattle.clock.specs.Clock.{noLimit}
@@ -179,5 +179,5 @@ pub told-words : {b c : List ℕ} {a : ℕ} {r : Numbers} {before after : List �
 told-words e h = rw e at h
 
 pub told-numbers : {b : List ℕ} {a : ℕ} {r n : Numbers} {before after : List ℕ} → n ≡ r → Told b a r before after
-    → Told b a (numbers (n .number) (n .a) (n .b)) before after
+    → Told b a (numbersAt (n .number) (n .a) (n .b) (n .c)) before after
 told-numbers e h = rw e h

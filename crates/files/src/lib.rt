@@ -19,7 +19,7 @@ pub fn slurp(path: &[u8], buf: &mut [u8; 65540]) -> usize
     n
 }
 
-// Prints an answer's three numbers on a line.
+// Prints an answer's four numbers on a line.
 pub fn show(r: Answer) {
     let n = answers::numbers_of(r);
     io::print_decimal(STDOUT_FILENO, n.number as u64);
@@ -27,6 +27,8 @@ pub fn show(r: Answer) {
     io::print_decimal(STDOUT_FILENO, n.a as u64);
     io::write_all(STDOUT_FILENO, b" ");
     io::print_decimal(STDOUT_FILENO, n.b as u64);
+    io::write_all(STDOUT_FILENO, b" ");
+    io::print_decimal(STDOUT_FILENO, n.c as u64);
     io::write_all(STDOUT_FILENO, b"\n");
 }
 

@@ -52,15 +52,18 @@ pub extern "C" fn tteokbiran_judge(
     number: &mut u32,
     a: &mut u32,
     b: &mut u32,
+    c: &mut u32,
 )
     ensures { λ _. ⌜ now (number .exit) ≡ judged (fileWords (now (book .entry))) (fileWords (now (plan .entry))) .number ⌝ }
     ensures { λ _. ⌜ now (a .exit) ≡ judged (fileWords (now (book .entry))) (fileWords (now (plan .entry))) .a ⌝ }
     ensures { λ _. ⌜ now (b .exit) ≡ judged (fileWords (now (book .entry))) (fileWords (now (plan .entry))) .b ⌝ }
+    ensures { λ _. ⌜ now (c .exit) ≡ judged (fileWords (now (book .entry))) (fileWords (now (plan .entry))) .c ⌝ }
 {
     let by_book = answers::numbers_of(judge(book, plan));
     *number = by_book.number;
     *a = by_book.a;
     *b = by_book.b;
+    *c = by_book.c;
 }
 
 // For C: the direct judge of a sheet and a plan.
@@ -71,15 +74,18 @@ pub extern "C" fn tteokbiran_judge_sheet(
     number: &mut u32,
     a: &mut u32,
     b: &mut u32,
+    c: &mut u32,
 )
     ensures { λ _. ⌜ now (number .exit) ≡ judgedSheet (fileWords (now (sheet .entry))) (fileWords (now (plan .entry))) .number ⌝ }
     ensures { λ _. ⌜ now (a .exit) ≡ judgedSheet (fileWords (now (sheet .entry))) (fileWords (now (plan .entry))) .a ⌝ }
     ensures { λ _. ⌜ now (b .exit) ≡ judgedSheet (fileWords (now (sheet .entry))) (fileWords (now (plan .entry))) .b ⌝ }
+    ensures { λ _. ⌜ now (c .exit) ≡ judgedSheet (fileWords (now (sheet .entry))) (fileWords (now (plan .entry))) .c ⌝ }
 {
     let by_sheet = answers::numbers_of(judge_sheet(sheet, plan));
     *number = by_sheet.number;
     *a = by_sheet.a;
     *b = by_sheet.b;
+    *c = by_sheet.c;
 }
 
 // For C: the translator, into lent words.
@@ -90,16 +96,19 @@ pub extern "C" fn tteokbiran_translate(
     number: &mut u32,
     a: &mut u32,
     b: &mut u32,
+    c: &mut u32,
 )
     ensures { λ _. ⌜ now (number .exit) ≡ translation (fileWords (now (sheet .entry))) (length (now (room .entry))) .number ⌝ }
     ensures { λ _. ⌜ now (a .exit) ≡ translation (fileWords (now (sheet .entry))) (length (now (room .entry))) .a ⌝ }
     ensures { λ _. ⌜ now (b .exit) ≡ translation (fileWords (now (sheet .entry))) (length (now (room .entry))) .b ⌝ }
+    ensures { λ _. ⌜ now (c .exit) ≡ translation (fileWords (now (sheet .entry))) (length (now (room .entry))) .c ⌝ }
     ensures { λ _. ⌜ now (room .exit) ≡ roomAfter (fileWords (now (sheet .entry))) (now (room .entry)) ⌝ }
 {
     let made = answers::numbers_of(translate(sheet, room));
     *number = made.number;
     *a = made.a;
     *b = made.b;
+    *c = made.c;
 }
 
 // For C: opens a reader over one timeline of a plan, in lent words.
@@ -111,11 +120,13 @@ pub extern "C" fn tteokbiran_open(
     number: &mut u32,
     a: &mut u32,
     b: &mut u32,
+    c: &mut u32,
     token: &mut u32,
 )
     ensures { λ _. ⌜ now (number .exit) ≡ openFault (now (book .entry)) (now (plan .entry)) line .number ⌝ }
     ensures { λ _. ⌜ now (a .exit) ≡ openFault (now (book .entry)) (now (plan .entry)) line .a ⌝ }
     ensures { λ _. ⌜ now (b .exit) ≡ openFault (now (book .entry)) (now (plan .entry)) line .b ⌝ }
+    ensures { λ _. ⌜ now (c .exit) ≡ openFault (now (book .entry)) (now (plan .entry)) line .c ⌝ }
     ensures { λ _. ⌜ now (token .exit) ≡ openAt (now (book .entry)) (now (plan .entry)) line .token ⌝ }
 {
     let opened = reader::open(book, plan, line);
@@ -125,6 +136,7 @@ pub extern "C" fn tteokbiran_open(
     *number = told.number;
     *a = told.a;
     *b = told.b;
+    *c = told.c;
     *token = at.token;
 }
 

@@ -1,6 +1,6 @@
 // The C side of the earliest times: a book as bytes and lent numbers in, the answer's numbers out, one by one.
 ghost use mathlib.Core.Path.{_≡_};
-ghost use Rattle.answers.specs.Numbers.{numbers, numbersOf};
+ghost use Rattle.answers.specs.Numbers.{numbersAt, numbersOf};
 ghost use Rattle.words.specs.Bytes.{fileWords};
 ghost use Rattle.earliest.specs.Times.{Told};
 use answers::Answer;
@@ -23,11 +23,13 @@ pub extern "C" fn tteokbiran_earliest(
     number: &mut u32,
     a: &mut u32,
     b: &mut u32,
+    c: &mut u32,
 )
-    ensures { λ _. ⌜ Told (fileWords (now (book .entry))) alternative (numbers (now (number .exit)) (now (a .exit)) (now (b .exit))) (now (times .entry)) (now (times .exit)) ⌝ }
+    ensures { λ _. ⌜ Told (fileWords (now (book .entry))) alternative (numbersAt (now (number .exit)) (now (a .exit)) (now (b .exit)) (now (c .exit))) (now (times .entry)) (now (times .exit)) ⌝ }
 {
     let r = answers::numbers_of(earliest(book, alternative, times));
     *number = r.number;
     *a = r.a;
     *b = r.b;
+    *c = r.c;
 }

@@ -24,14 +24,17 @@ pub extern "C" fn tteokbiran_narrow(
     number: &mut u32,
     a: &mut u32,
     b: &mut u32,
+    c: &mut u32,
 )
     ensures { λ _. ⌜ now (number .exit) ≡ narrowing (fileWords (now (sheet .entry))) alternative (length (now (table .entry))) .number ⌝ }
     ensures { λ _. ⌜ now (a .exit) ≡ narrowing (fileWords (now (sheet .entry))) alternative (length (now (table .entry))) .a ⌝ }
     ensures { λ _. ⌜ now (b .exit) ≡ narrowing (fileWords (now (sheet .entry))) alternative (length (now (table .entry))) .b ⌝ }
+    ensures { λ _. ⌜ now (c .exit) ≡ narrowing (fileWords (now (sheet .entry))) alternative (length (now (table .entry))) .c ⌝ }
     ensures { λ _. ⌜ now (table .exit) ≡ tableAfter (fileWords (now (sheet .entry))) alternative (now (table .entry)) ⌝ }
 {
     let r = answers::numbers_of(narrow(sheet, alternative, table));
     *number = r.number;
     *a = r.a;
     *b = r.b;
+    *c = r.c;
 }

@@ -13,7 +13,7 @@ use Rattle.answers.specs.declared.Numbers.{Numbers}
 use Rattle.answers.specs.Numbers.{numbers, noFault, orElse, else-fault}
 use Rattle.words.specs.Words.{word}
 use Rattle.layout.specs.Layout.{count, ending}
-use Rattle.book.specs.Fault.{lowest, firstHeader, firstTable, lengthFault, headerFault, endFault, recordFault, bookFault}
+use Rattle.book.specs.Fault.{firstHeader, firstTable, lengthFault, headerFault, endFault, recordFault, bookFault, recordNumbers}
 use Rattle.narrowing.specs.Sheet.{wordsFor, narrowing, tableAfter}
 use Rattle.narrowing.proofs.Sheets.{no-alternative, too-short, done, answered, first-past, table-narrowed, refused-stays}
 
@@ -22,6 +22,10 @@ use Rattle.narrowing.proofs.Sheets.{no-alternative, too-short, done, answered, 
 given : (t : Bool) (k n a b : ℕ) → n ≤ k → cond t (numbers n a b) noFault .number ≤ k
 given true k n a b h = h
 given false k n a b h = omega arith
+
+any-given : (t : Bool) (k : ℕ) (x : Numbers) → x .number ≤ k → cond t x noFault .number ≤ k
+any-given true k x h = h
+any-given false k x h = omega arith
 
 kept : (t : Bool) (k n a b : ℕ) → n ≤ k → cond t noFault (numbers n a b) .number ≤ k
 kept true k n a b h = omega arith
@@ -50,7 +54,7 @@ module _ (s : List ℕ) where
 
   record-most : recordFault 2 s .number ≤ 4
   unfolding recordFault
-  record-most = given (ltb (firstTable 2 s) 6) 4 4 (firstTable 2 s) (lowest 2 s (firstTable 2 s)) (omega arith)
+  record-most = any-given (ltb (firstTable 2 s) 6) 4 (recordNumbers 2 s (firstTable 2 s)) (omega arith)
 
   sheet-numbers : bookFault 2 s .number ≤ 4
   unfolding bookFault

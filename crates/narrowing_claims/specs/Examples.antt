@@ -13,8 +13,8 @@ use Rattle.words.specs.Least.{least, first}
 use Rattle.words.specs.Runs.{run}
 use Rattle.clock.specs.Clock.{noLimit, inBounds}
 use Rattle.layout.specs.Layout.{fifthWidth, fifthMost, begins, headerWrong, starts, owner}
-use Rattle.records.specs.Wrong.{setWrong, valueTests, fifthTestsOf, fifthTests, recordWrong}
-use Rattle.book.specs.Fault.{leaves, tableWrong}
+use Rattle.records.specs.Wrong.{setWrong, valueTests, fifthTestsOf, fifthTests, wrongWord, recordWrong}
+use Rattle.book.specs.Fault.{leaves, tableWrong, toldWord}
 use Rattle.book.specs.Fault as book
 use Rattle.book.specs.Rules.{nameAt, constraintAt, alternativeAt, ruleAt}
 use Rattle.book.proofs.Specimen.{sheetE}
@@ -58,7 +58,7 @@ meeting =
 
 -- so its relation to the decoder's token is in the narrowed set
 pub kept : inSet (setOf 2 (tableAfter sheetE 0 (nines 4)) 0 1) (relationOfTokens (tokenIn sheetE 0 job (meeting .0) 0) (tokenIn sheetE 0 job (meeting .0) 1)) ≡ true
-unfolding nines narrowing numberFault roomFault orElse wordsFor firstToken ruleOf book.lengthFault book.headerFault book.endFault book.recordFault book.bookFault setWrong valueTests fifthTestsOf fifthTests recordWrong leaves tableWrong fifthWidth fifthMost begins headerWrong starts owner run least inSet any all
+unfolding nines narrowing numberFault roomFault orElse wordsFor firstToken ruleOf book.lengthFault book.headerFault book.endFault book.recordFault book.bookFault setWrong valueTests fifthTestsOf fifthTests first wrongWord recordWrong leaves tableWrong toldWord fifthWidth fifthMost begins headerWrong starts owner run least inSet any all
 kept = no-relation-lost sheetE 0 (nines 4) refl planP2 job (meeting .0) (meeting .1) 0 1 (lit< tt) (lit< tt)
 
 -- ---- an alternative that nothing is left of
@@ -85,5 +85,5 @@ unfolding triggerLine lineOf tokensFrom ruleAt ruleOf owner least
 only-on = record { index = 0; within = lit< tt; here = refl }
 
 pub nothing-meets : alternativeMet constraintHolds (lineOf oneToken) (triggered (token 0 0 5)) (alternativeIn bothBefore 0) ≡ false
-unfolding nines narrowing tableAfter numberFault roomFault orElse wordsFor firstTable constraintsOf firstToken ruleOf firstWord filled cutBy constrained constrainedAll cutWord stepWord through still passes sum narrowed pairSet rowSet composeSets converseSet down unions chosen constraintAt book.lengthFault book.headerFault book.endFault book.recordFault book.bookFault setWrong valueTests fifthTestsOf fifthTests recordWrong leaves tableWrong fifthWidth fifthMost begins headerWrong starts owner run least inSet any all isTrigger ruleAt plan.planFault endFrom endsApart endsFault lineOf tokensFrom inBounds plan.lengthFault plan.headFault plan.endFault plan.tokensFault plan.sumBefore plan.headWrong plan.startOf plan.durationOutside plan.notSuccessor plan.tokenFault plan.tokenWrong plan.firstToken plan.lineWrong
+unfolding nines narrowing tableAfter numberFault roomFault orElse wordsFor firstTable constraintsOf firstToken ruleOf firstWord filled cutBy constrained constrainedAll cutWord stepWord through still passes sum narrowed pairSet rowSet composeSets converseSet down unions chosen constraintAt book.lengthFault book.headerFault book.endFault book.recordFault book.bookFault setWrong valueTests fifthTestsOf fifthTests first wrongWord recordWrong leaves tableWrong toldWord fifthWidth fifthMost begins headerWrong starts owner run least inSet any all isTrigger ruleAt plan.planFault endFrom endsApart endsFault lineOf tokensFrom inBounds plan.lengthFault plan.headFault plan.endFault plan.tokensFault plan.sumBefore plan.headWrong plan.startOf plan.durationOutside plan.notSuccessor plan.tokenFault plan.tokenWrong plan.firstToken plan.lineWrong
 nothing-meets = none-meets bothBefore 0 (nines 4) refl 0 1 (lit< tt) (lit< tt) refl oneToken refl (token 0 0 5) only-on refl

@@ -11,12 +11,12 @@ use Rattle.answers.specs.Numbers.{numbers, orElse}
 use Rattle.answers.specs.declared.Numbers.{Numbers}
 use Rattle.words.specs.Words.{inSet}
 use Rattle.words.specs.Lists.{any, all}
-use Rattle.words.specs.Least.{least}
+use Rattle.words.specs.Least.{least, first}
 use Rattle.words.specs.Runs.{run}
 use Rattle.clock.specs.Clock.{noLimit}
 use Rattle.layout.specs.Layout.{fifthWidth, fifthMost, begins, headerWrong, starts, owner}
-use Rattle.records.specs.Wrong.{setWrong, valueTests, fifthTestsOf, fifthTests, recordWrong}
-use Rattle.book.specs.Fault.{leaves, tableWrong, lengthFault, headerFault, endFault, recordFault, bookFault}
+use Rattle.records.specs.Wrong.{setWrong, valueTests, fifthTestsOf, fifthTests, wrongWord, recordWrong}
+use Rattle.book.specs.Fault.{leaves, tableWrong, toldWord, lengthFault, headerFault, endFault, recordFault, bookFault}
 use Rattle.book.specs.Rules.{constraintAt}
 use Rattle.book.proofs.Specimen.{bookE, sheetE, same}
 use Rattle.composition.specs.Sets.{down, unions, chosen}
@@ -80,5 +80,5 @@ specimens =
 
 -- THE TABLE stands
 pub all-stand : all stands specimens ≡ true
-unfolding stands nines sameWords specimens narrowing tableAfter numberFault roomFault orElse wordsFor firstTable constraintsOf firstToken ruleOf firstWord filled cutBy constrained constrainedAll cutWord stepWord through still passes sum narrowed pairSet rowSet composeSets converseSet down unions chosen constraintAt lengthFault headerFault endFault recordFault bookFault setWrong valueTests fifthTestsOf fifthTests recordWrong leaves tableWrong fifthWidth fifthMost begins headerWrong starts owner run least inSet any all
+unfolding stands nines sameWords specimens narrowing tableAfter numberFault roomFault orElse wordsFor firstTable constraintsOf firstToken ruleOf firstWord filled cutBy constrained constrainedAll cutWord stepWord through still passes sum narrowed pairSet rowSet composeSets converseSet down unions chosen constraintAt lengthFault headerFault endFault recordFault bookFault setWrong valueTests fifthTestsOf fifthTests first wrongWord recordWrong leaves tableWrong toldWord fifthWidth fifthMost begins headerWrong starts owner run least inSet any all
 all-stand = refl

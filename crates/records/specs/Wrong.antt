@@ -1,19 +1,14 @@
 -- What is wrong with a record, down to its words: each record has a list of tests, one for each word in turn, that say whether the word
 -- is wrong given the words before it and the tables before. Assumes nothing.
-use mathlib.Core.Bool.{Bool, false, _||_, _&&_, not, cond}
+use mathlib.Core.Bool.{Bool, _||_, _&&_, not, cond}
 use mathlib.Core.List.{List, [], _∷_}
 use Prim.Native.Nat.{ℕ, _+_, _^_}
 use lib.Dec.{ltb, leb, eqb}
 use lib.ListN.{getD}
 use Rattle.words.specs.Words.{word}
+use Rattle.words.specs.Least.{first}
 use Rattle.clock.specs.Clock.{lastTick, noLimit}
-use Rattle.layout.specs.Layout.{fifthMost, count, recordAt, field, ends, starts, owner, valuesOf}
-
--- one of the tests is true
-abbrev pub someWrong : List Bool → Bool
-someWrong [] = false
-someWrong (w ∷ []) = w
-someWrong (w ∷ (v ∷ ws)) = w || someWrong (v ∷ ws)
+use Rattle.layout.specs.Layout.{fifthMost, width, count, recordAt, field, ends, starts, owner, valuesOf}
 
 -- "Ranges into the next table": the words `word` and `word` + 1 of a record of `table` say where its records in the table `into` start,
 -- and their number, least..most
@@ -155,6 +150,11 @@ abbrev pub recordTests : ℕ → List ℕ → ℕ → ℕ → List Bool
 recordTests e b t =
     getD (variableTests e b ∷ valueTests e b ∷ ruleTests e b ∷ alternativeTests e b ∷ nameTests e b ∷ fifthTests e b ∷ []) t (λ i. [])
 
--- "bad record"
+-- "the first word of the record, counted from 0, that is wrong given the words before it and the tables before"; the record's width where
+-- none is
+unfoldable pub wrongWord : ℕ → List ℕ → ℕ → ℕ → ℕ
+wrongWord e b t i = first (λ w. w) (recordTests e b t i)
+
+-- "bad record": some word of it is wrong
 unfoldable pub recordWrong : ℕ → List ℕ → ℕ → ℕ → Bool
-recordWrong e b t i = someWrong (recordTests e b t i)
+recordWrong e b t i = ltb (wrongWord e b t i) (width e t)

@@ -1,14 +1,16 @@
-// Whether a record of a book or a sheet is wrong: the tests of its words, each given the words before it and the tables before. The
-// record is given with its place, which lies in the book, and with its owners where its words are tested against them.
+// Which word of a record of a book or a sheet is wrong: the tests of its words, each given the words before it and the tables before.
+// The record is given with its place, which lies in the book, and with its owners where its words are tested against them.
 ghost use mathlib.Core.Path.{_≡_};
-ghost use mathlib.Core.Bool.{_||_};
-ghost use Prim.Native.Nat.{_+_, _*_, _<_, _≤_, _^_};
+ghost use mathlib.Core.Bool.{_||_, cond};
+ghost use mathlib.Core.List.{[], _∷_};
+ghost use Prim.Native.Nat.{suc, _+_, _*_, _<_, _≤_, _^_};
 ghost use lib.Dec.{ltb};
 ghost use lib.ListN.{length};
+ghost use Rattle.words.specs.Least.{first};
 ghost use Rattle.words.specs.Words.{word};
 ghost use Rattle.layout.specs.Layout.{offset, owner};
 ghost use Rattle.layout.specs.Owner.{Place};
-ghost use Rattle.records.specs.Wrong.{someWrong, lowerWrong, upperWrong, setWrong, tokenWrong, argumentWrong, atomTests, constraintTests, recordWrong};
+ghost use Rattle.records.specs.Wrong.{askRange, startWrong, numberWrong, lowerWrong, upperWrong, setWrong, tokenWrong, argumentWrong, atomTests, constraintTests, wrongWord};
 use clock::Time;
 use layout::count_of;
 use layout::fifth_most;
@@ -76,121 +78,155 @@ fn argument_wrong(n: usize, trigger: bool, kind: usize, x: usize) -> bool
     ((kind == 2) & (x > LAST_TICK)) | ((kind < 2) & token_wrong(n, trigger, x))
 }
 
-// ---- tests of records, at their place: one test for each word in turn, all of them made
+// ---- the first wrong word of a record, at its place: one test for each word in turn, all of them made
 
-// Whether record i of table 0 is wrong.
-fn variable_wrong(b: &[u32], e: usize, i: usize, at: usize) -> bool
+// The first wrong word from this one on: this one, or one behind it, where `next` is the first or how many there are.
+fn behind(wrong: bool, next: usize) -> usize
+    requires { ⌜ next < 8 ⌝ }
+    ensures { λ r. ⌜ (r ≡ cond wrong 0 (suc next)) × (r ≤ next + 1) ⌝ }
+{
+    if wrong { 0 } else { next + 1 }
+}
+
+// The first wrong word of record i of table 0, or its width.
+fn variable_word(b: &[u32], e: usize, i: usize, at: usize) -> usize
     requires { ⌜ Place e (now b) 0 i at ⌝ }
-    ensures { λ r. ⌜ r ≡ recordWrong e (now (b .entry)) 0 i ⌝ }
+    ensures { λ r. ⌜ (r ≡ wrongWord e (now (b .entry)) 0 i) × (r < 8) ⌝ }
 {
     let first = read(b, at);
     let number = read(b, at + 1);
-    (first != starts_of(b, e, 0, 0, i, at)) | number_wrong(first, number, 1, 32, count_of(b, 1))
+    let starts = first != starts_of(b, e, 0, 0, i, at);
+    behind(starts, behind(number_wrong(first, number, 1, 32, count_of(b, 1)), 0))
 }
 
-// Whether record i of table 1 is wrong; v is its variable.
-pub fn value_wrong(b: &[u32], e: usize, i: usize, at: usize, v: usize) -> bool
+// The first wrong word of record i of table 1, or its width; v is its variable.
+pub fn value_word(b: &[u32], e: usize, i: usize, at: usize, v: usize) -> usize
     requires { ⌜ Place e (now b) 1 i at × (v < 2 ^ 32) × (v ≡ owner e (now b) 0 0 i) ⌝ }
-    ensures { λ r. ⌜ r ≡ recordWrong e (now (b .entry)) 1 i ⌝ }
+    ensures { λ r. ⌜ (r ≡ wrongWord e (now (b .entry)) 1 i) × (r < 8) ⌝ }
 {
     let least = read(b, at);
     let greatest = read(b, at + 1);
     let set = read(b, at + 2);
     let n = values_of(b, v);
-    lower_wrong(1, least) | (upper_wrong(least, greatest) | set_wrong(set, n))
+    behind(
+        lower_wrong(1, least),
+        behind(upper_wrong(least, greatest), behind(set_wrong(set, n), 0)),
+    )
 }
 
-// Whether record i of table 2 is wrong.
-fn rule_wrong(b: &[u32], e: usize, i: usize, at: usize) -> bool
+// The first wrong word of record i of table 2, or its width.
+fn rule_word(b: &[u32], e: usize, i: usize, at: usize) -> usize
     requires { ⌜ Place e (now b) 2 i at ⌝ }
-    ensures { λ r. ⌜ r ≡ recordWrong e (now (b .entry)) 2 i ⌝ }
+    ensures { λ r. ⌜ (r ≡ wrongWord e (now (b .entry)) 2 i) × (r < 8) ⌝ }
 {
     let v = read(b, at);
     let x = read(b, at + 1);
     let first = read(b, at + 2);
     let number = read(b, at + 3);
-    ((v != NO_LIMIT) & (v >= count_of(b, 0)))
-        | ((((v == NO_LIMIT) & (x != 0)) | ((v != NO_LIMIT) & (x >= values_of(b, v))))
-            | ((first != starts_of(b, e, 2, 2, i, at))
-                | number_wrong(first, number, 1, 64, count_of(b, 3))))
+    let variable = (v != NO_LIMIT) & (v >= count_of(b, 0));
+    let value = ((v == NO_LIMIT) & (x != 0)) | ((v != NO_LIMIT) & (x >= values_of(b, v)));
+    let starts = first != starts_of(b, e, 2, 2, i, at);
+    let range = behind(
+        starts,
+        behind(number_wrong(first, number, 1, 64, count_of(b, 3)), 0),
+    );
+    behind(variable, behind(value, range))
 }
 
-// Whether record i of table 3 is wrong.
-fn alternative_wrong(b: &[u32], e: usize, i: usize, at: usize) -> bool
+// Of record i of table 3, the first wrong of the two words that say what it asks, or 2.
+fn asks_word(b: &[u32], e: usize, i: usize, at: usize) -> usize
     requires { ⌜ Place e (now b) 3 i at ⌝ }
-    ensures { λ r. ⌜ r ≡ recordWrong e (now (b .entry)) 3 i ⌝ }
+    ensures { λ r. ⌜ (r ≡ first (λ w. w) (startWrong e (now (b .entry)) (askRange e) i ∷ numberWrong e (now (b .entry)) (askRange e) i ∷ [])) × (r ≤ 2) ⌝ }
+{
+    let ask = read(b, at + 2);
+    let asks = read(b, at + 3);
+    let starts = ask != starts_of(b, e, 3, 2, i, at);
+    behind(
+        starts,
+        behind(number_wrong(ask, asks, 0, fifth_most(e), count_of(b, 5)), 0),
+    )
+}
+
+// The first wrong word of record i of table 3, or its width.
+fn alternative_word(b: &[u32], e: usize, i: usize, at: usize) -> usize
+    requires { ⌜ Place e (now b) 3 i at ⌝ }
+    ensures { λ r. ⌜ (r ≡ wrongWord e (now (b .entry)) 3 i) × (r < 8) ⌝ }
 {
     let name = read(b, at);
     let names = read(b, at + 1);
-    let ask = read(b, at + 2);
-    let asks = read(b, at + 3);
-    (name != starts_of(b, e, 3, 0, i, at))
-        | (number_wrong(name, names, 0, 4, count_of(b, 4))
-            | ((ask != starts_of(b, e, 3, 2, i, at))
-                | number_wrong(ask, asks, 0, fifth_most(e), count_of(b, 5))))
+    let starts = name != starts_of(b, e, 3, 0, i, at);
+    let number = number_wrong(name, names, 0, 4, count_of(b, 4));
+    behind(starts, behind(number, asks_word(b, e, i, at)))
 }
 
-// Whether record i of table 4 is wrong.
-fn name_wrong(b: &[u32], e: usize, i: usize, at: usize) -> bool
+// The first wrong word of record i of table 4, or its width.
+fn name_word(b: &[u32], e: usize, i: usize, at: usize) -> usize
     requires { ⌜ Place e (now b) 4 i at ⌝ }
-    ensures { λ r. ⌜ r ≡ recordWrong e (now (b .entry)) 4 i ⌝ }
+    ensures { λ r. ⌜ (r ≡ wrongWord e (now (b .entry)) 4 i) × (r < 8) ⌝ }
 {
     let v = read(b, at);
-    (v >= count_of(b, 0)) | (read(b, at + 1) >= values_of(b, v))
+    let variable = v >= count_of(b, 0);
+    behind(variable, behind(read(b, at + 1) >= values_of(b, v), 0))
 }
 
-// Whether an atom is wrong, in an alternative with n names, whose rule has a trigger or not.
-fn atom_wrong(b: &[u32], at: usize, n: usize, trigger: bool) -> bool
+// The first wrong word of an atom, or its width, in an alternative with n names, whose rule has a trigger or not.
+fn atom_word(b: &[u32], at: usize, n: usize, trigger: bool) -> usize
     requires { ⌜ at + 6 ≤ length (now b) ⌝ }
-    ensures { λ r. ⌜ r ≡ someWrong (atomTests (now (b .entry)) at n trigger) ⌝ }
+    ensures { λ r. ⌜ (r ≡ first (λ w. w) (atomTests (now (b .entry)) at n trigger)) × (r < 8) ⌝ }
 {
     let left = read(b, at);
     let right = read(b, at + 2);
     let lower = read(b, at + 4);
-    (left > 2)
-        | (argument_wrong(n, trigger, left, read(b, at + 1))
-            | ((right > 2)
-                | (argument_wrong(n, trigger, right, read(b, at + 3))
-                    | (lower_wrong(0, lower) | upper_wrong(lower, read(b, at + 5))))))
+    let bounds = behind(
+        lower_wrong(0, lower),
+        behind(upper_wrong(lower, read(b, at + 5)), 0),
+    );
+    let argument = argument_wrong(n, trigger, right, read(b, at + 3));
+    let rest = behind(right > 2, behind(argument, bounds));
+    behind(
+        left > 2,
+        behind(argument_wrong(n, trigger, left, read(b, at + 1)), rest),
+    )
 }
 
-// Whether a constraint is wrong, in an alternative with n names, whose rule has a trigger or not.
-fn constraint_wrong(b: &[u32], at: usize, n: usize, trigger: bool) -> bool
+// The first wrong word of a constraint, or its width, in an alternative with n names, whose rule has a trigger or not.
+fn constraint_word(b: &[u32], at: usize, n: usize, trigger: bool) -> usize
     requires { ⌜ at + 3 ≤ length (now b) ⌝ }
-    ensures { λ r. ⌜ r ≡ someWrong (constraintTests (now (b .entry)) at n trigger) ⌝ }
+    ensures { λ r. ⌜ (r ≡ first (λ w. w) (constraintTests (now (b .entry)) at n trigger)) × (r < 8) ⌝ }
 {
+    let left = token_wrong(n, trigger, read(b, at));
+    let right = token_wrong(n, trigger, read(b, at + 1));
     let set = read(b, at + 2);
-    token_wrong(n, trigger, read(b, at))
-        | (token_wrong(n, trigger, read(b, at + 1)) | ((set < 1) | (set > 8191)))
+    behind(left, behind(right, behind((set < 1) | (set > 8191), 0)))
 }
 
-// Whether record i of table 5 is wrong; a is its alternative, and r that one's rule.
-pub fn fifth_wrong(b: &[u32], e: usize, i: usize, at: usize, a: usize, r: usize) -> bool
+// The first wrong word of record i of table 5, or its width; a is its alternative, and r that one's rule.
+pub fn fifth_word(b: &[u32], e: usize, i: usize, at: usize, a: usize, r: usize) -> usize
     requires { ⌜ Place e (now b) 5 i at × (a < 2 ^ 32) × (r < 2 ^ 32) × (a ≡ owner e (now b) 3 2 i) × (r ≡ owner e (now b) 2 2 a) ⌝ }
-    ensures { λ w. ⌜ w ≡ recordWrong e (now (b .entry)) 5 i ⌝ }
+    ensures { λ w. ⌜ (w ≡ wrongWord e (now (b .entry)) 5 i) × (w < 8) ⌝ }
 {
     let n = number_at(b, offset_of(b, 3) + a * 4 + 1);
     let trigger = number_at(b, offset_of(b, 2) + r * 4) != NO_LIMIT;
     if e == 2 {
-        constraint_wrong(b, at, n, trigger)
+        constraint_word(b, at, n, trigger)
     } else {
-        atom_wrong(b, at, n, trigger)
+        atom_word(b, at, n, trigger)
     }
 }
 
-// Whether record i of table t is wrong, of the tables whose records are tested without an owner: 0, 2, 3, 4.
-pub fn plain_wrong(b: &[u32], e: usize, t: usize, i: usize, at: usize) -> bool
+// The first wrong word of record i of table t, or its width, for the tables whose records are tested without an owner: 0, 2, 3, 4.
+pub fn plain_word(b: &[u32], e: usize, t: usize, i: usize, at: usize) -> usize
     requires { ⌜ (t < 5) × (t ≡ 1 → ⊥) × Place e (now b) t i at ⌝ }
-    ensures { λ r. ⌜ r ≡ recordWrong e (now (b .entry)) t i ⌝ }
+    ensures { λ r. ⌜ (r ≡ wrongWord e (now (b .entry)) t i) × (r < 8) ⌝ }
 {
     if t == 0 {
-        return variable_wrong(b, e, i, at);
+        return variable_word(b, e, i, at);
     }
     if t == 2 {
-        return rule_wrong(b, e, i, at);
+        return rule_word(b, e, i, at);
     }
     if t == 3 {
-        return alternative_wrong(b, e, i, at);
+        return alternative_word(b, e, i, at);
     }
-    name_wrong(b, e, i, at)
+    name_word(b, e, i, at)
 }

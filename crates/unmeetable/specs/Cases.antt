@@ -10,12 +10,12 @@ use lib.ListN.{length, getD}
 use Rattle.answers.specs.declared.Numbers.{Numbers}
 use Rattle.answers.specs.Numbers.{numbers, orElse}
 use Rattle.words.specs.Words.{inSet}
-use Rattle.words.specs.Least.{least}
+use Rattle.words.specs.Least.{least, first}
 use Rattle.words.specs.Runs.{run}
 use Rattle.clock.specs.Clock.{noLimit, inBounds}
 use Rattle.layout.specs.Layout.{fifthWidth, fifthMost, begins, headerWrong, starts, owner}
-use Rattle.records.specs.Wrong.{setWrong, valueTests, fifthTestsOf, fifthTests, recordWrong}
-use Rattle.book.specs.Fault.{leaves, tableWrong}
+use Rattle.records.specs.Wrong.{setWrong, valueTests, fifthTestsOf, fifthTests, wrongWord, recordWrong}
+use Rattle.book.specs.Fault.{leaves, tableWrong, toldWord}
 use Rattle.book.specs.Rules.{valueAt, variableAt, nameAt, atomAt, alternativeAt, ruleAt, variablesOf}
 use Rattle.book.specs.Fault as book
 use Rattle.book.proofs.Specimen.{bookE}
@@ -70,7 +70,7 @@ earliestE : Earliest (variablesOf bookE) (ruleOf bookE 0) (alternativeOf bookE 0
 earliestE = record { suits = suitsE; first = firstE }
 
 soundE : book.bookFault 1 bookE .number ≡ 0
-unfolding orElse least fifthWidth fifthMost begins headerWrong starts owner setWrong valueTests fifthTestsOf fifthTests recordWrong leaves tableWrong book.lengthFault book.headerFault book.endFault book.recordFault book.bookFault
+unfolding orElse least first fifthWidth fifthMost begins headerWrong starts owner setWrong valueTests fifthTestsOf fifthTests wrongWord recordWrong leaves tableWrong toldWord book.lengthFault book.headerFault book.endFault book.recordFault book.bookFault
 soundE = refl
 
 shownE : shown (ruleOf bookE 0) (alternativeOf bookE 0) timesE ≡ 0 ∷ 5 ∷ 0 ∷ 5 ∷ 5 ∷ []
@@ -106,7 +106,7 @@ hopeless-none x s =
     omega arith
 
 hopeless-sound : book.bookFault 1 hopeless .number ≡ 0
-unfolding orElse least fifthWidth fifthMost begins headerWrong starts owner setWrong valueTests fifthTestsOf fifthTests recordWrong leaves tableWrong book.lengthFault book.headerFault book.endFault book.recordFault book.bookFault
+unfolding orElse least first fifthWidth fifthMost begins headerWrong starts owner setWrong valueTests fifthTestsOf fifthTests wrongWord recordWrong leaves tableWrong toldWord book.lengthFault book.headerFault book.endFault book.recordFault book.bookFault
 hopeless-sound = refl
 
 -- whatever is told of it is "no", and the lent words are as they were
@@ -120,7 +120,7 @@ abbrev two : List ℕ
 two = 1 ∷ 9 ∷ 1 ∷ 0 ∷ 2 ∷ 0 ∷ 45 ∷ 0 ∷ 5 ∷ []
 
 two-passes : plan.planFault hopeless two .number ≡ 0
-unfolding orElse least inSet inBounds tokensFrom lineOf endFrom endsApart endsFault plan.lengthFault plan.sumBefore plan.headWrong plan.headFault plan.endFault plan.startOf plan.durationOutside plan.notSuccessor plan.tokenFault plan.tokenWrong plan.firstToken plan.lineWrong plan.tokensFault plan.planFault
+unfolding orElse least first inSet inBounds tokensFrom lineOf endFrom endsApart endsFault plan.lengthFault plan.sumBefore plan.headWrong plan.headFault plan.endFault plan.startOf plan.durationOutside plan.notSuccessor plan.tokenFault plan.tokenWrong plan.firstToken plan.lineWrong plan.tokensFault plan.planFault
 two-passes = refl
 
 -- and no choice of its tokens meets the alternative

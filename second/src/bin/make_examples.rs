@@ -48,7 +48,7 @@ fn deepest() -> [Example; 2] {
             sheet: false,
             book,
             plan,
-            expected: [12, 0, 0],
+            expected: [12, 0, 0, 0],
             what: "Four names whose only tokens stand last on full lines: \
                    the search in a book goes as deep as it can.",
         },
@@ -57,7 +57,7 @@ fn deepest() -> [Example; 2] {
             sheet: true,
             book: sheet,
             plan: long_trigger,
-            expected: [12, 0, 0],
+            expected: [12, 0, 0, 0],
             what: "Four names that stand first or last on full lines, and a set that no order settles: \
                    the search in a sheet, and the translator, go as deep as they can.",
         },
@@ -73,9 +73,9 @@ struct Asked {
 }
 
 const ASKED: [Asked; 3] = [
-    Asked { folder: "accepted", alternative: 0, line: "0 1 0 0 5 0 5 5", forecast: "" },
-    Asked { folder: "fault-27-book", alternative: 1, line: "27 0 0", forecast: "" },
-    Asked { folder: "hopeless", alternative: 0, line: "0 0 0", forecast: "rule 0 alternative 0\n" },
+    Asked { folder: "accepted", alternative: 0, line: "0 1 0 0 0 5 0 5 5", forecast: "" },
+    Asked { folder: "fault-27-book", alternative: 1, line: "27 0 0 0", forecast: "" },
+    Asked { folder: "hopeless", alternative: 0, line: "0 0 0 0", forecast: "rule 0 alternative 0\n" },
 ];
 
 /// The second of two tokens starts at least 40 and at most 30 after the first.
@@ -88,7 +88,7 @@ fn hopeless() -> Example {
         sheet: false,
         book: draft.words(),
         plan: plan_words(&vec![vec![[0, 45], [0, 5]]]),
-        expected: [12, 0, 0],
+        expected: [12, 0, 0, 0],
         what: "\"At least 40 after\" and \"at most 30 after\" in one alternative: no day could meet it, \
                and the program forecast says so without any plan.",
     }
@@ -107,98 +107,98 @@ fn all() -> Vec<Example> {
         e(
             "accepted",
             P2.to_vec(),
-            [0, 2, 0],
+            [0, 2, 0, 0],
             "Both UTF-8 jobs run while the decoder reads UTF-8, so the plan is accepted.",
         ),
         e(
             "misspelt",
             P1.to_vec(),
-            [12, 0, 3],
+            [12, 0, 3, 0],
             "The second UTF-8 job, token 3 of the RIP, runs while the decoder reads Latin-1; \
              this plan spelled a name wrong.",
         ),
         p2(
             "fault-01",
             E[..13].to_vec(),
-            [1, 0, 0],
+            [1, 0, 0, 0],
             "The book has 13 words, one less than its header needs.",
         ),
         p2(
             "fault-02",
             with(&E, 1, 51),
-            [2, 1, 0],
+            [2, 1, 0, 0],
             "Word 1 of the book says 51 words in all, but it has 52.",
         ),
-        p2("fault-03", one_more(&E), [3, 0, 0], "The book has one word more than its tables."),
+        p2("fault-03", one_more(&E), [3, 0, 0, 0], "The book has one word more than its tables."),
         p2(
             "fault-04",
             with(&E, 27, 61),
-            [4, 1, 3],
-            "The last value record, 3 of table 1, has a least duration above its greatest.",
+            [4, 1, 3, 1],
+            "Word 1 of the last value record, 3 of table 1: the greatest duration is below the least.",
         ),
         e(
             "fault-05",
             P2[..6].to_vec(),
-            [5, 0, 0],
+            [5, 0, 0, 0],
             "The plan has 6 words, too few for two timelines.",
         ),
         e(
             "fault-06",
             with(&P2, 5, 3),
-            [6, 5, 0],
+            [6, 5, 0, 0],
             "Word 5 of the plan begins timeline 1 at token 3, but timeline 0 has two tokens.",
         ),
-        e("fault-07", one_more(&P2), [7, 0, 0], "The plan has one word more than its tokens."),
+        e("fault-07", one_more(&P2), [7, 0, 0, 0], "The plan has one word more than its tokens."),
         e(
             "fault-08",
             with(&P2, 9, 2),
-            [8, 0, 1],
+            [8, 0, 1, 0],
             "Token 1 of the decoder has value 2, but the decoder has only values 0 and 1.",
         ),
         e(
             "fault-09",
             with(&P2, 14, 61),
-            [9, 1, 1],
+            [9, 1, 1, 0],
             "Token 1 of the RIP is a job of 61 ticks, but a job lasts 5 to 60.",
         ),
         e(
             "fault-10",
             with(&P2, 9, 0),
-            [10, 0, 1],
+            [10, 0, 1, 0],
             "Token 1 of the decoder is Latin-1 again, but only UTF-8 may follow Latin-1.",
         ),
         e(
             "fault-11",
             with(&P2, 10, 999_999_991),
-            [11, 0, 1],
+            [11, 0, 1, 0],
             "Token 1 of the decoder ends one tick after the last.",
         ),
         e(
             "fault-18",
             with(&P2, 14, 5),
-            [18, 1, 0],
+            [18, 1, 0, 0],
             "Timeline 1, the RIP's, ends at tick 35, but timeline 0, the decoder's, ends at 50.",
         ),
         p2(
             "fault-27-book",
             E.to_vec(),
-            [0, 2, 0],
-            "The book has one alternative, number 0; asked for the times of number 1, the answer is 27 0 0.",
+            [0, 2, 0, 0],
+            "The book has one alternative, number 0; asked for the times of number 1, the answer is 27 0 0 0.",
         ),
         hopeless(),
         sheet(
             "sheet",
             &P1,
-            [12, 0, 3],
+            [12, 0, 3, 0],
             "The same rule as a sheet refuses the misspelt plan; \
-             translating it prints 0 106 4, and the book it makes gives the same line.",
+             translating it prints 0 106 4 0, and the book it makes gives the same line.",
         ),
         sheet(
             "sheet-accepted",
             &P2,
-            [0, 2, 0],
+            [0, 2, 0, 0],
             "The same rule as a sheet accepts the plan; \
-             translating it prints 0 106 4, and the book it makes gives the same line.",
+             translating it prints 0 106 4 0, and the book it makes gives the same line.",
         ),
     ];
     list.extend(deepest());
@@ -207,8 +207,8 @@ fn all() -> Vec<Example> {
         sheet: true,
         book: load::largest_sheet(),
         plan: load::largest_sheet_plan(),
-        expected: [0, 68, 0],
-        what: "A sheet whose translation has 16,384 words, the most there may be: it prints 0 16384 888.",
+        expected: [0, 68, 0, 0],
+        what: "A sheet whose translation has 16,384 words, the most there may be: it prints 0 16384 888 0.",
     });
     list
 }
@@ -219,8 +219,8 @@ fn write(root: &Path, example: &Example) -> io::Result<()> {
     let book = if example.sheet { "sheet.bin" } else { "book.bin" };
     fs::write(folder.join(book), to_bytes(&example.book))?;
     fs::write(folder.join("plan.bin"), to_bytes(&example.plan))?;
-    let [number, a, b] = example.expected;
-    fs::write(folder.join("line"), format!("{number} {a} {b}\n"))?;
+    let [number, a, b, c] = example.expected;
+    fs::write(folder.join("line"), format!("{number} {a} {b} {c}\n"))?;
     fs::write(folder.join("what.txt"), format!("{}\n", example.what))
 }
 
@@ -244,7 +244,7 @@ fn narrowed() -> Vec<Narrowed> {
             sheet: before,
             alternative: 0,
             room: 10,
-            leaves: "0 0 0\n64 1 1 4096 64 1 4096 4096 64 9\n",
+            leaves: "0 0 0 0\n64 1 1 4096 64 1 4096 4096 64 9\n",
             what: "Name 1 is before 2 and 2 before 3: that 1 is before 3 follows. \
                    The word behind the table of nine stays.",
         },
@@ -253,7 +253,7 @@ fn narrowed() -> Vec<Narrowed> {
             sheet: E_SHEET.to_vec(),
             alternative: 0,
             room: 3,
-            leaves: "25 0 0\n9 9 9\n",
+            leaves: "25 0 0 0\n9 9 9\n",
             what: "The alternative has two tokens, and the table lent for them three words, \
                    one too few. They stay.",
         },
@@ -262,7 +262,7 @@ fn narrowed() -> Vec<Narrowed> {
             sheet: E_SHEET.to_vec(),
             alternative: 1,
             room: 4,
-            leaves: "27 0 0\n9 9 9 9\n",
+            leaves: "27 0 0 0\n9 9 9 9\n",
             what: "The sheet has one alternative, number 0, and number 1 was asked for.",
         },
     ]
@@ -270,9 +270,9 @@ fn narrowed() -> Vec<Narrowed> {
 
 fn write_narrowed(root: &Path, example: &Narrowed) -> io::Result<()> {
     let mut table = vec![9; example.room];
-    let [number, a, b] = narrow(&example.sheet, example.alternative, &mut table);
+    let [number, a, b, c] = narrow(&example.sheet, example.alternative, &mut table);
     let words: Vec<String> = table.iter().map(u32::to_string).collect();
-    let leaves = format!("{number} {a} {b}\n{}\n", words.join(" "));
+    let leaves = format!("{number} {a} {b} {c}\n{}\n", words.join(" "));
     assert_eq!(leaves, example.leaves, "{}", example.folder);
     let folder = root.join(example.folder);
     fs::create_dir_all(&folder)?;
@@ -285,8 +285,8 @@ fn write_narrowed(root: &Path, example: &Narrowed) -> io::Result<()> {
 /// What is asked of the example's book, after its line was seen to be right.
 fn write_asked(root: &Path, example: &Example, asked: &Asked) -> io::Result<()> {
     let mut times = [u64::MAX; 11];
-    let [number, a, b] = earliest(&example.book, asked.alternative, &mut times);
-    let mut line = format!("{number} {a} {b}");
+    let [number, a, b, c] = earliest(&example.book, asked.alternative, &mut times);
+    let mut line = format!("{number} {a} {b} {c}");
     times.iter().filter(|&&t| t != u64::MAX).for_each(|t| line += &format!(" {t}"));
     assert_eq!(line, asked.line, "{}", asked.folder);
     let folder = root.join(asked.folder);

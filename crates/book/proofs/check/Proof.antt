@@ -20,13 +20,20 @@ first-bad-requires c κs =
     let n = none .before .before in
     (search needs, tables-within _ _ _ _ (n .before .check .ensures) (n .numbers-of .ensures) (none .if1 .left))
 
+told-word-requires : tie.Need-told-word-requires
+told-word-requires c κs =
+    let none = c .before .before .before in
+    let n = none .before .before in
+    (search needs, tables-within _ _ _ _ (n .before .check .ensures) (n .numbers-of .ensures) (none .if1 .left), search needs)
+
 returns-2 : tie.Need-returns-2
 returns-2 c =
-    let first = c .before .before in
+    let bad = c .before in
+    let first = bad .before .before in
     let none = first .before in
     let n = none .before .before in
-    record-wrong _ _ _ _ (n .before .check .ensures) (n .numbers-of .ensures) (none .if1 .left) _ _ (first .first-table .ensures) (c .before .if2 .taken)
-    (c .first-bad .ensures .0)
+    record-wrong _ _ _ _ (n .before .check .ensures) (n .numbers-of .ensures) (none .if1 .left) _ _ _ (first .first-table .ensures)
+    (bad .before .if2 .taken) (bad .first-bad .ensures .0) (c .told-word .ensures .0)
 
 returns-3 : tie.Need-returns-3
 returns-3 c =
@@ -43,6 +50,8 @@ check-spec =
     returns
     first-table-requires
     first-bad-requires
+    told-word-requires
+    (λ c. search needs)
     (λ c. search needs)
     (λ c. search needs)
     returns-2

@@ -5,6 +5,7 @@ use native.Mathlib.Omega.{arith}
 use borrow.Author.Needs.{needs}
 use Rattle.words.specs.Least.{Clear, clear-more, least-at, scan}
 use Rattle.records.specs.Wrong.{recordWrong}
+use Rattle.records.proofs.Words.{word-bad, word-good}
 use Rattle.layout.specs.Owner.{Cursor}
 use Rattle.layout.proofs.Owner.{cursors}
 use Rattle.layout.proofs.Bounds.{scaled, placed}
@@ -35,8 +36,8 @@ first-fifth-spec =
     let w = c .before .before .before .before in
     let n = w .before .before in
     (placed (c .before .before .loop-test .taken) (n .count-of .ensures .0) (w .before .offset-of .ensures .0) (w .fifth-width .ensures .0) (n .before .before .pre .2), search needs, search needs, search needs, search needs))
-    (λ c. (least-at _ _ _ (c .before .before .before .before .before .loop .inv .1) (omega arith) (cc), omega arith))
+    (λ c. (least-at _ _ _ (c .before .before .before .before .before .loop .inv .1) (omega arith) (word-bad _ _ _ _ (c .before .fifth-word .ensures .0) (c .before .before .before .before .before .before .fifth-width .ensures .0) (c .if1 .taken)), omega arith))
     (λ c. search needs)
     (λ c. search needs)
-    (λ c. (search needs, clear-more _ _ (c .before .before .before .before .before .loop .inv .1) (cc), search cursors, search cursors))
+    (λ c. (search needs, clear-more _ _ (c .before .before .before .before .before .loop .inv .1) (word-good _ _ _ _ (c .before .fifth-word .ensures .0) (c .before .before .before .before .before .before .fifth-width .ensures .0) (c .if1 .left)), search cursors, search cursors))
     (λ c. search (needs, scan)))

@@ -4,6 +4,7 @@ use native.Mathlib.Omega.{arith}
 use borrow.Author.Needs.{needs}
 use Rattle.words.specs.Least.{Clear, clear-more, least-at, scan}
 use Rattle.records.specs.Wrong.{recordWrong}
+use Rattle.records.proofs.Words.{word-bad, word-good}
 use Rattle.layout.proofs.Bounds.{scaled, placed}
 use Rattle.book.proofs.first_plain.Statement.{statement}
 use Rattle.book.proofs.first_plain.Tie as tie
@@ -30,8 +31,8 @@ first-plain-spec =
     let w = c .before .before in
     let n = w .before .before in
     (search needs, search needs, placed (c .loop-test .taken) (n .count-of .ensures .0) (w .before .offset-of .ensures .0) (w .width-of .ensures .0) (n .before .before .pre .2)))
-    (λ c. (least-at _ _ _ (c .before .before .before .loop .inv .1) (omega arith) (cc), omega arith))
+    (λ c. (least-at _ _ _ (c .before .before .before .loop .inv .1) (omega arith) (word-bad _ _ _ _ (c .before .plain-word .ensures .0) (c .before .before .before .before .width-of .ensures .0) (c .if1 .taken)), omega arith))
     (λ c. search needs)
     (λ c. search needs)
-    (λ c. (search needs, clear-more _ _ (c .before .before .before .loop .inv .1) (cc)))
+    (λ c. (search needs, clear-more _ _ (c .before .before .before .loop .inv .1) (word-good _ _ _ _ (c .before .plain-word .ensures .0) (c .before .before .before .before .width-of .ensures .0) (c .if1 .left))))
     (λ c. search (needs, scan)))

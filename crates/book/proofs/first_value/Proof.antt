@@ -6,6 +6,7 @@ use native.Mathlib.Omega.{arith}
 use borrow.Author.Needs.{needs}
 use Rattle.words.specs.Least.{Clear, clear-more, least-at, scan}
 use Rattle.records.specs.Wrong.{recordWrong}
+use Rattle.records.proofs.Words.{word-bad, word-good}
 use Rattle.layout.specs.Owner.{Cursor}
 use Rattle.layout.proofs.Owner.{cursors}
 use Rattle.layout.proofs.Bounds.{placed}
@@ -33,8 +34,8 @@ first-value-spec =
     (λ c κs.
     let n = c .before .before .before .before in
     (placed (c .before .loop-test .taken) (n .count-of .ensures .0) (c .before .before .before .offset-of .ensures .0) refl (n .before .before .pre .1), search needs, search needs))
-    (λ c. (least-at _ _ _ (c .before .before .before .before .loop .inv .1) (omega arith) (cc), omega arith))
+    (λ c. (least-at _ _ _ (c .before .before .before .before .loop .inv .1) (omega arith) (word-bad _ _ _ _ (c .before .value-word .ensures .0) refl (c .if1 .taken)), omega arith))
     (λ c. search needs)
     (λ c. search needs)
-    (λ c. (search needs, clear-more _ _ (c .before .before .before .before .loop .inv .1) (cc), search cursors))
+    (λ c. (search needs, clear-more _ _ (c .before .before .before .before .loop .inv .1) (word-good _ _ _ _ (c .before .value-word .ensures .0) refl (c .if1 .left)), search cursors))
     (λ c. search (needs, scan)))

@@ -4,4 +4,4 @@ use Rattle.front.proofs.tteokbiran_judge.Statement.{statement}
 use Rattle.front.proofs.tteokbiran_judge.Tie as tie
 
 pub tteokbiran-judge-spec : {M : Type 1} → statement M
-tteokbiran-judge-spec = tie.close (tie.spec (λ c κs. search needs) (λ c κs. search needs) (λ c. (cc, (cc, cc))))
+tteokbiran-judge-spec = tie.close (tie.spec (λ c κs. search needs) (λ c κs. search needs) (λ c. (cc, (cc, (cc, cc)))))

@@ -6,4 +6,4 @@ use Rattle.front.proofs.tteokbiran_translate.Tie as tie
 pub tteokbiran-translate-spec : {M : Type 1} → statement M
 tteokbiran-translate-spec =
     tie.close
-    (tie.spec (λ c κs. search needs) (λ c κs. search needs) (λ c. search needs) (λ c. (cc, (cc, (cc, cc)))))
+    (tie.spec (λ c κs. search needs) (λ c κs. search needs) (λ c. search needs) (λ c. (cc, (cc, (cc, (cc, cc))))))

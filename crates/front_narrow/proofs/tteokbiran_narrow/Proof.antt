@@ -6,4 +6,4 @@ use Rattle.front_narrow.proofs.tteokbiran_narrow.Tie as tie
 pub tteokbiran-narrow-spec : {M : Type 1} → statement M
 tteokbiran-narrow-spec =
     tie.close
-    (tie.spec (λ c κs. search needs) (λ c κs. search needs) (λ c. search needs) (λ c. (cc, (cc, (cc, cc)))))
+    (tie.spec (λ c κs. search needs) (λ c κs. search needs) (λ c. search needs) (λ c. (cc, (cc, (cc, (cc, cc))))))

@@ -64,14 +64,14 @@ impl Bench {
     }
 
     fn print(&self, name: &str, timed: &Timed, before: Option<&Timed>) {
-        let [number, a, b] = timed.answer;
+        let [number, a, b, c] = timed.answer;
         print!(
             "{name:<24}{:>12}{:>12}{:>8}{:>10}  {:<14}",
             time(timed.proved),
             time(timed.second),
             over(timed.proved, timed.second),
             over(timed.proved, Some(self.least)),
-            format!("{number} {a} {b}")
+            format!("{number} {a} {b} {c}")
         );
         match before {
             Some(b) => {

@@ -127,7 +127,7 @@ impl Both {
         let what = format!("earliest of alternative {alternative} with room for {room} times");
         self.same(&what, &proved, &second, &[("book", book)]);
         self.same(&format!("the times of {what}"), &by_proved, &by_second, &[("book", book)]);
-        if second != [0, 1, 0] {
+        if second != [0, 1, 0, 0] {
             self.expect("the times without a yes", &by_proved, &before, &[("book", book)]);
         }
         (self.note(Door::Earliest, second, book), by_second)
@@ -142,7 +142,7 @@ impl Both {
             &expected,
             &[("plan", plan)],
         );
-        self.note(Door::Step, [u32::from(!expected.more), 0, 0], &[]);
+        self.note(Door::Step, [u32::from(!expected.more), 0, 0, 0], &[]);
         second.map(|(_, next)| next)
     }
 

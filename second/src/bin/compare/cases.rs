@@ -32,8 +32,8 @@ pub fn specimens(both: &mut Both) -> u64 {
             }
         };
         both.expect("what the law expects", &answer, &specimen.expected, &[]);
-        let [n, a, b] = answer;
-        println!("specimen {}: {n} {a} {b}", specimen.name);
+        let [n, a, b, c] = answer;
+        println!("specimen {}: {n} {a} {b} {c}", specimen.name);
         number += 1;
     }
     number
@@ -49,8 +49,8 @@ pub fn narrowings(both: &mut Both) -> u64 {
         let written = &table[..specimen.written.len()];
         both.expect("what the law expects", &answer, &specimen.answer, &[]);
         both.expect("the table that it expects", &written, &&specimen.written[..], &[]);
-        let [n, a, b] = answer;
-        println!("specimen {}: {n} {a} {b}", specimen.name);
+        let [n, a, b, c] = answer;
+        println!("specimen {}: {n} {a} {b} {c}", specimen.name);
     }
     list.len() as u64
 }

@@ -1,5 +1,6 @@
 //! How often each answer was given, and which had to be.
 
+use second::layout::Kind;
 use second::Answer;
 use std::collections::BTreeMap;
 
@@ -28,12 +29,23 @@ pub const DOORS: [(Door, &str); 7] = [
 const RANGES: [u32; 3] = [0, 2, 3];
 /// Marks such an answer; no table or word has so high a number.
 const LEFT_OVER: u32 = 10_000;
+/// A word of a bad record is counted with its table: table x 10 + word.
+const BY_TABLE: u32 = 10;
 
 fn shown(place: u32) -> String {
     match place.checked_sub(LEFT_OVER) {
         Some(table) => format!("{table} with the next not used up"),
         None => place.to_string(),
     }
+}
+
+/// Every word of every table, as a fault 4 is counted.
+fn words_of(door: Door) -> impl Iterator<Item = u32> {
+    let kind = match door {
+        Door::JudgeSheet | Door::Translate => Kind::Sheet,
+        _ => Kind::Book,
+    };
+    (0..6).flat_map(move |t| (0..kind.sizes()[t as usize] as u32).map(move |c| t * BY_TABLE + c))
 }
 
 #[derive(Default)]
@@ -45,14 +57,14 @@ pub struct Tally {
 impl Tally {
     /// `count` is the record count of the table that a fault 4 names.
     pub fn add(&mut self, door: Door, answer: Answer, count: impl Fn(u32) -> Option<u32>) {
-        let [number, a, b] = answer;
+        let [number, a, b, c] = answer;
         *self.numbers.entry((door, number)).or_default() += 1;
         let place = match number {
             2 | 14 => a,
             // Yes or no.
             0 if door == Door::Earliest => a,
             4 if RANGES.contains(&a) && count(a) == Some(b) => a + LEFT_OVER,
-            4 => a,
+            4 => a * BY_TABLE + c,
             // Word 3 stands for the first tokens, word 4 for the counts.
             6 if a > 2 => 4 - a % 2,
             6 => a,
@@ -77,7 +89,7 @@ impl Tally {
         }
         println!("(under step, 0 is a token handed out and 1 is \"no more\")");
         self.print_places(2, "fault 2 by word");
-        self.print_places(4, "fault 4 by table");
+        self.print_places(4, "fault 4 by table and word, 31 being word 1 of table 3");
         self.print_places(6, "fault 6 by word; 3 is any first token, 4 any count");
         self.print_places(14, "fault 14 by table");
         self.print_places(0, "earliest: 0 is no, 1 is yes");
@@ -117,7 +129,7 @@ impl Tally {
                 let places: Vec<u32> = match number {
                     0 => (0..2).collect(),
                     2 => (0..14).collect(),
-                    4 => (0..6).chain(RANGES.map(|t| t + LEFT_OVER)).collect(),
+                    4 => words_of(door).chain(RANGES.map(|t| t + LEFT_OVER)).collect(),
                     6 => (0..5).collect(),
                     _ => (3..7).collect(),
                 };

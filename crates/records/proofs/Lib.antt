@@ -1,0 +1,2 @@
+-- The laws of `records`, for the proofs of those that link it.
+pub mod Words
