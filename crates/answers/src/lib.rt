@@ -58,7 +58,11 @@ pub fn numbers_of(r: Answer) -> Numbers
         Answer::BookLength => row(1, 0, 0),
         Answer::BookHeader { word } => row(2, word, 0),
         Answer::BookEnd => row(3, 0, 0),
-        Answer::BookRecord { table, record, word } => row_at(4, table, record, word),
+        Answer::BookRecord {
+            table,
+            record,
+            word,
+        } => row_at(4, table, record, word),
         Answer::PlanLength => row(5, 0, 0),
         Answer::PlanHeader { word } => row(6, word, 0),
         Answer::PlanEnd => row(7, 0, 0),

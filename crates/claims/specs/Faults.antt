@@ -144,8 +144,7 @@ fault-table e b p last own =
             λ h.
                 let q = s .0 h in
                 let w = with-book e b .0 (q .0) in
-                let n = w .1 in
-                (
+                let n = w .1 in (
                   w .0,
                   record { sized = plan-sized b p .0 (n .0); head = head-none b p .0 (n .1 .0); whole = plan-ends b p .0 (n .1 .1 .0) },
                   timelines-iff (w .0) p .1 (tokens-none b p .0 (n .1 .1 .1 .0)),

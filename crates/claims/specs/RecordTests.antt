@@ -164,7 +164,7 @@ module _ (e : ℕ) (b : List ℕ) (i : ℕ) where
   pub word-iff : (t : ℕ) → t < 6 → (j : ℕ) → (getD (recordTests e b t i) j false ≡ true) ↔ WordWrong e b i t j
   word-iff t l j = (
     tables (λ t. (j : ℕ) → getD (recordTests e b t i) j false ≡ true → WordWrong e b i t j) variable-to value-to rule-to alternative-to name-to fifth-to
-    t l j,
+        t l j,
     word-from,
   )
 

@@ -16,8 +16,8 @@ use choice::set_time;
 use choice::time_at;
 use choice::token_time;
 use choice::triggered;
-use marks::Found;
 use lines::Token;
+use marks::Found;
 use words::number_at;
 use words::word_at;
 

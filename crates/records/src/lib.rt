@@ -96,7 +96,10 @@ fn variable_word(b: &[u32], e: usize, i: usize, at: usize) -> usize
     let first = read(b, at);
     let number = read(b, at + 1);
     let starts = first != starts_of(b, e, 0, 0, i, at);
-    behind(starts, behind(number_wrong(first, number, 1, 32, count_of(b, 1)), 0))
+    behind(
+        starts,
+        behind(number_wrong(first, number, 1, 32, count_of(b, 1)), 0),
+    )
 }
 
 // The first wrong word of record i of table 1, or its width; v is its variable.
