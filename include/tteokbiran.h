@@ -53,7 +53,7 @@ void tteokbiran_narrow(const uint8_t *sheet, size_t sheet_len, uint32_t alternat
 void tteokbiran_earliest(const uint8_t *book, size_t book_len, uint32_t alternative, uint64_t *times, size_t times_len, uint32_t *number,
                          uint32_t *a, uint32_t *b, uint32_t *c);
 
-/* Opens a reader over timeline `line` of a plan, here as words. Answers 1 to 11, then 17 for a timeline that isn't there, else 0, as four
+/* Opens a reader over timeline `line` of a plan, here as words. Answers 1 to 11 and 18, then 17 for a timeline that isn't there, else 0, as four
  * numbers. *token becomes the token number of the position to read from: 0, or 4,294,967,295 on a refusal, which names no token. The
  * position's start is 0 in both cases. */
 void tteokbiran_open(const uint32_t *book, size_t book_len, const uint32_t *plan, size_t plan_len, uint32_t line, uint32_t *number,
