@@ -42,7 +42,7 @@ fn shown(place: u32) -> String {
 /// Every word of every table, as a fault 4 is counted.
 fn words_of(door: Door) -> impl Iterator<Item = u32> {
     let kind = match door {
-        Door::JudgeSheet | Door::Translate => Kind::Sheet,
+        Door::JudgeSheet | Door::Translate | Door::Narrow => Kind::Sheet,
         _ => Kind::Book,
     };
     (0..6).flat_map(move |t| (0..kind.sizes()[t as usize] as u32).map(move |c| t * BY_TABLE + c))
