@@ -18,7 +18,7 @@ use Rattle.verdict.specs.Judged.{judged, judgedSheet}
 use Rattle.translator.specs.Translation.{translation, roomAfter}
 use Rattle.reader.specs.declared.Opened.{Opened}
 use Rattle.reader.specs.Opening.{openFault, openAt}
-use Rattle.front.specs.Front.{Stepped}
+use Rattle.front_reader.specs.Stepped.{Stepped}
 use Rattle.answers.proofs.OneCase.{one-answer}
 
 -- an equation permits one result

@@ -1,8 +1,8 @@
--- `front::tteokbiran_step` meets its contract: what a step of the position says, number by number. Assumes nothing.
+-- `front_reader::tteokbiran_step` meets its contract: what a step of the position says, number by number. Assumes nothing.
 use borrow.Author.Needs.{needs}
-use Rattle.front.specs.Front.{handed, none, stepped, stayed}
-use Rattle.front.proofs.tteokbiran_step.Statement.{statement}
-use Rattle.front.proofs.tteokbiran_step.Tie as tie
+use Rattle.front_reader.specs.Stepped.{handed, none, stepped, stayed}
+use Rattle.front_reader.proofs.tteokbiran_step.Statement.{statement}
+use Rattle.front_reader.proofs.tteokbiran_step.Tie as tie
 
 pub tteokbiran-step-spec : {M : Type 1} → statement M
 tteokbiran-step-spec = tie.close (tie.spec (λ c κs. search needs) (λ c. search needs) (λ c. search needs) (λ c. let r = c .before .before .before .before .before in (handed _ _ _ _ _ (r .read-at .ensures) (c .before .before .before .t .given .1), stepped _ _ _ _ _ _ _ _ _ (r .read-at .ensures) (c .before .before .before .t .given .1))) (λ c. (none _ _ _ _ (c .before .before .read-at .ensures) (c .enum-told .given .1), stayed _ _ _ _ _ _ _ _ (c .before .before .read-at .ensures) (c .enum-told .given .1))))
