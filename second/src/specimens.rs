@@ -145,16 +145,16 @@ fn wrong_words() -> Vec<Specimen> {
         (
             "no alternative is left for the second rule",
             book(&[
-                1, 35, 1, 14, 1, 16, 2, 19, 2, 27, 0, 35, 0, 35, 0, 1, 1, N, 1, N, 0, 0, 2, N, 0, 2, 1,
-                0, 0, 0, 0, 0, 0, 0, 0,
+                1, 35, 1, 14, 1, 16, 2, 19, 2, 27, 0, 35, 0, 35, 0, 1, 1, N, 1, N, 0, 0, 2, N, 0,
+                2, 1, 0, 0, 0, 0, 0, 0, 0, 0,
             ]),
             [4, 2, 1, 3],
         ),
         (
             "names are left over",
             book(&[
-                1, 31, 1, 14, 1, 16, 1, 19, 1, 23, 2, 27, 0, 31, 0, 1, 1, N, 1, N, 0, 0, 1, 0, 1, 0, 0,
-                0, 0, 0, 0,
+                1, 31, 1, 14, 1, 16, 1, 19, 1, 23, 2, 27, 0, 31, 0, 1, 1, N, 1, N, 0, 0, 1, 0, 1,
+                0, 0, 0, 0, 0, 0,
             ]),
             [4, 3, 1, 0],
         ),
@@ -262,7 +262,11 @@ fn earliest() -> Vec<Specimen> {
         ("6 before time point 5", free(one, &[&[0, 1, 2, 5, 6, N]], &[]), [0, 0, 0, 0]),
         ("a name that no atom speaks of", free(one, &[], &[0, 1, 1]), [0, 1, 0, 0]),
         ("at least 40 and at most 30", free(&[[0, 0]; 2], &both, &[]), [0, 0, 0, 0]),
-        ("times over 32 bits", shows(first(LAST, NO_TRIGGER, &[[0, 0]; 4], &far), &day), [0, 1, 0, 0]),
+        (
+            "times over 32 bits",
+            shows(first(LAST, NO_TRIGGER, &[[0, 0]; 4], &far), &day),
+            [0, 1, 0, 0],
+        ),
         (
             "a trigger pulled up",
             shows(first(1, [0, 0], one, &[&[1, 1, 0, 0, 7, N]]), &[8, 9, 0, 1, 9]),

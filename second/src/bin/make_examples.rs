@@ -75,7 +75,12 @@ struct Asked {
 const ASKED: [Asked; 3] = [
     Asked { folder: "accepted", alternative: 0, line: "0 1 0 0 0 5 0 5 5", forecast: "" },
     Asked { folder: "fault-27-book", alternative: 1, line: "27 0 0 0", forecast: "" },
-    Asked { folder: "hopeless", alternative: 0, line: "0 0 0 0", forecast: "rule 0 alternative 0\n" },
+    Asked {
+        folder: "hopeless",
+        alternative: 0,
+        line: "0 0 0 0",
+        forecast: "rule 0 alternative 0\n",
+    },
 ];
 
 /// The second of two tokens starts at least 40 and at most 30 after the first.

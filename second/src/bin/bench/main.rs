@@ -5,7 +5,7 @@
 //! take too long; with --quick that is soon.
 
 mod measure;
-#[path = "../../proved.rs"]
+#[path = "../../proved/mod.rs"]
 mod proved;
 
 use measure::{hold_memory, judged, translated, Asked, Timed};

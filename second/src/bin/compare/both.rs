@@ -2,11 +2,33 @@
 
 use crate::proved;
 use crate::tally::{Door, Tally};
-use second::layout::N;
+use second::layout::{Kind, N};
 use second::words::from_bytes;
 use second::{bytes, Answer, Position};
 use std::fmt::Debug;
 use std::process::exit;
+
+const JUDGED: [u32; 14] = [0, 1, 2, 3, 4, 5, 6, 7, 8, 9, 10, 11, 12, 18];
+const OPENED: [u32; 14] = [0, 1, 2, 3, 4, 5, 6, 7, 8, 9, 10, 11, 17, 18];
+
+const fn door(
+    name: &'static str,
+    kind: Kind,
+    answers: &'static [u32],
+    placed: &'static [u32],
+) -> Door {
+    Door { name, kind, answers, placed }
+}
+
+const JUDGE: Door = door("judge", Kind::Book, &JUDGED, &[2, 4, 6]);
+const JUDGE_SHEET: Door = door("judge sheet", Kind::Sheet, &JUDGED, &[2, 4, 6]);
+const TRANSLATE: Door = door("translate", Kind::Sheet, &[0, 1, 2, 3, 4, 13, 14, 15], &[2, 4, 14]);
+const NARROW: Door = door("narrow", Kind::Sheet, &[0, 1, 2, 3, 4, 25, 27], &[2, 4]);
+const OPEN: Door = door("open", Kind::Book, &OPENED, &[2, 4, 6]);
+const STEP: Door = door("step", Kind::Book, &[0, 1], &[]);
+const EARLIEST: Door = door("earliest", Kind::Book, &[0, 1, 2, 3, 4, 27], &[0, 2, 4]);
+
+pub const DOORS: [&Door; 7] = [&JUDGE, &JUDGE_SHEET, &TRANSLATE, &NARROW, &OPEN, &STEP, &EARLIEST];
 
 #[derive(Default)]
 pub struct Both {
@@ -16,8 +38,8 @@ pub struct Both {
     pub case: String,
 }
 
-/// What words the room holds before a translation.
-fn room(words: usize) -> Vec<u32> {
+/// What words a room holds before a call.
+pub fn room(words: usize) -> Vec<u32> {
     (0..words as u32).map(|i| 0xA5A5_0000 ^ i).collect()
 }
 
@@ -39,7 +61,7 @@ fn print_input(name: &str, bytes: &[u8]) {
 
 impl Both {
     /// The proved library gave what the second judge gave, or the run ends.
-    fn same<T: PartialEq + Debug>(
+    pub fn same<T: PartialEq + Debug>(
         &self,
         what: &str,
         proved: &T,
@@ -64,6 +86,13 @@ impl Both {
         }
     }
 
+    /// Both gave a specimen's line.
+    pub fn specimen(&self, name: &str, answer: Answer, expected: Answer) {
+        self.expect("what the law expects", &answer, &expected, &[]);
+        let [n, a, b, c] = answer;
+        println!("specimen {name}: {n} {a} {b} {c}");
+    }
+
     fn stop(&self, what: &str, found: &[(&str, &dyn Debug)], inputs: &[(&str, &[u8])]) -> ! {
         println!("DIFFERENCE in {what}, {}", self.case);
         found.iter().for_each(|(who, this)| println!("{who}: {this:?}"));
@@ -71,7 +100,7 @@ impl Both {
         exit(1);
     }
 
-    fn note(&mut self, door: Door, answer: Answer, book: &[u8]) -> Answer {
+    pub fn note(&mut self, door: &Door, answer: Answer, book: &[u8]) -> Answer {
         self.asked += 1;
         self.tally.add(door, answer, count(book));
         answer
@@ -80,13 +109,13 @@ impl Both {
     pub fn judge(&mut self, book: &[u8], plan: &[u8]) -> Answer {
         let (proved, second) = (proved::judge(book, plan), bytes::judge(book, plan));
         self.same("judge", &proved, &second, &[("book", book), ("plan", plan)]);
-        self.note(Door::Judge, second, book)
+        self.note(&JUDGE, second, book)
     }
 
     pub fn judge_sheet(&mut self, sheet: &[u8], plan: &[u8]) -> Answer {
         let (proved, second) = (proved::judge_sheet(sheet, plan), bytes::judge_sheet(sheet, plan));
         self.same("judge sheet", &proved, &second, &[("sheet", sheet), ("plan", plan)]);
-        self.note(Door::JudgeSheet, second, sheet)
+        self.note(&JUDGE_SHEET, second, sheet)
     }
 
     /// Also compares the whole rooms, and that only the words written changed.
@@ -101,7 +130,7 @@ impl Both {
         let rest = &room(words)[written..];
         self.expect("the rest of the room", &&by_proved[written..], &rest, &[("sheet", sheet)]);
         by_second.truncate(written);
-        (self.note(Door::Translate, second, sheet), by_second)
+        (self.note(&TRANSLATE, second, sheet), by_second)
     }
 
     /// Also compares the whole tables.
@@ -115,7 +144,7 @@ impl Both {
         if second[0] != 0 {
             self.expect("the table refused", &by_proved, &room(words), &[("sheet", sheet)]);
         }
-        (self.note(Door::Narrow, second, sheet), by_second)
+        (self.note(&NARROW, second, sheet), by_second)
     }
 
     /// Also compares all the lent numbers, those behind the times too.
@@ -130,7 +159,7 @@ impl Both {
         if second != [0, 1, 0, 0] {
             self.expect("the times without a yes", &by_proved, &before, &[("book", book)]);
         }
-        (self.note(Door::Earliest, second, book), by_second)
+        (self.note(&EARLIEST, second, book), by_second)
     }
 
     pub fn step(&mut self, plan: &[u8], at: Position) -> Option<Position> {
@@ -142,7 +171,7 @@ impl Both {
             &expected,
             &[("plan", plan)],
         );
-        self.note(Door::Step, [u32::from(!expected.more), 0, 0, 0], &[]);
+        self.note(&STEP, [u32::from(!expected.more), 0, 0, 0], &[]);
         second.map(|(_, next)| next)
     }
 
@@ -152,7 +181,7 @@ impl Both {
         let (second, token, start) = bytes::open_reader(book, plan, line);
         let what = format!("open of line {line}");
         self.same(&what, &proved, &(second, token), &[("book", book), ("plan", plan)]);
-        self.note(Door::Open, second, book);
+        self.note(&OPEN, second, book);
         let refused = if second[0] == 0 { (0, 0) } else { (N, 0) };
         self.expect("where the reader stands", &(token, start), &refused, &[]);
         let mut at = Position { line, token, start };

@@ -1,6 +1,7 @@
 //! The kinds of cases.
 
-use crate::both::Both;
+use crate::both::{Both, DOORS};
+use crate::part::Part;
 use second::generate::draft::{plan_words, AlternativeDraft, Draft, NO_TRIGGER};
 use second::generate::random::{pair, Size, LARGE, MEDIUM, SMALL};
 use second::generate::rng::Rng;
@@ -11,8 +12,18 @@ use second::specimens::{self, Call, E, E_SHEET, P1, P2};
 use second::words::{from_bytes, to_bytes};
 use second::{narrow, Position};
 
+/// What the base asks, and the requests that have no file of their own.
+pub const BASE: Part = Part {
+    name: "base",
+    doors: &DOORS,
+    specimens: |both| specimens(both) + narrowings(both),
+    fixed: |both| every_place(both, 400) + busy(both),
+    random,
+    cases: 240_000,
+};
+
 /// The law's specimens. Both have to give the line that stands in the law.
-pub fn specimens(both: &mut Both) -> u64 {
+fn specimens(both: &mut Both) -> u64 {
     let mut number = 0;
     for specimen in specimens::all() {
         both.case = format!("specimen {}", specimen.name);
@@ -31,32 +42,28 @@ pub fn specimens(both: &mut Both) -> u64 {
                 answer
             }
         };
-        both.expect("what the law expects", &answer, &specimen.expected, &[]);
-        let [n, a, b, c] = answer;
-        println!("specimen {}: {n} {a} {b} {c}", specimen.name);
+        both.specimen(specimen.name, answer, specimen.expected);
         number += 1;
     }
     number
 }
 
 /// The law's specimens of narrowing, tables and all.
-pub fn narrowings(both: &mut Both) -> u64 {
+fn narrowings(both: &mut Both) -> u64 {
     let list = narrow::specimens();
     for specimen in &list {
         both.case = format!("specimen {}", specimen.name);
         let sheet = to_bytes(&specimen.sheet);
         let (answer, table) = both.narrow(&sheet, specimen.alternative, specimen.room);
         let written = &table[..specimen.written.len()];
-        both.expect("what the law expects", &answer, &specimen.answer, &[]);
         both.expect("the table that it expects", &written, &&specimen.written[..], &[]);
-        let [n, a, b, c] = answer;
-        println!("specimen {}: {n} {a} {b} {c}", specimen.name);
+        both.specimen(specimen.name, answer, specimen.answer);
     }
     list.len() as u64
 }
 
 /// Every word of some inputs in turn, replaced by every edge.
-pub fn every_place(both: &mut Both, cases: u64) -> u64 {
+fn every_place(both: &mut Both, cases: u64) -> u64 {
     let (p1, p2) = (to_bytes(&P1), to_bytes(&P2));
     let mut number = 0;
     let mut each = |words: &[u32], ask: &mut dyn FnMut(&mut Both, &[u8])| {
@@ -112,7 +119,7 @@ fn judge(both: &mut Both, kind: Kind, words: &[u8], plan: &[u8]) {
 }
 
 /// What keeps a judge busy, on short lines.
-pub fn busy(both: &mut Both) -> u64 {
+fn busy(both: &mut Both) -> u64 {
     let mut number = 0;
     let mut each = |kind: Kind, one: &Slow| {
         for tokens in [1, 2, 3, 6] {
@@ -215,7 +222,7 @@ fn size(rng: &mut Rng) -> Size {
 }
 
 /// One random case.
-pub fn random(both: &mut Both, rng: &mut Rng) {
+fn random(both: &mut Both, rng: &mut Rng) {
     let kind = if rng.percent(65) { Kind::Book } else { Kind::Sheet };
     match rng.below(1000) {
         0..=29 => return extremes(both, rng, kind),

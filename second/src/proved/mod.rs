@@ -1,5 +1,5 @@
-//! The proved library, called as a C program calls it. The only file that
-//! knows its signatures; the programs that use it take it in as a module.
+//! The proved library, called as a C program calls it. Only the files here
+//! know its signatures; the programs that use it take them in as a module.
 #![allow(dead_code, unused_imports)] // not every program asks everything
 
 use second::{Answer, Position};
@@ -21,6 +21,15 @@ pub const UNSET: u32 = 0xDEAD_BEEF;
 pub const NAME: &str = "the proved library";
 #[cfg(feature = "mock")]
 pub const NAME: &str = "the second judge itself (mock: nothing is compared)";
+
+/// The answer that a call leaves in the four numbers lent to it.
+#[cfg(not(feature = "mock"))]
+fn answered(call: impl FnOnce([*mut u32; 4])) -> Answer {
+    let mut answer = [UNSET; 4];
+    let [number, a, b, c] = &mut answer;
+    call([number, a, b, c]);
+    answer
+}
 
 #[cfg(not(feature = "mock"))]
 mod calls {
@@ -104,113 +113,70 @@ mod calls {
         ) -> bool;
     }
 
+    // Safe, here and in the other files: each pointer comes with the length of a
+    // live slice or points to a live number, and nothing is kept.
     pub fn judge(book: &[u8], plan: &[u8]) -> Answer {
-        let [mut number, mut a, mut b, mut c] = [UNSET; 4];
-        // Safe, here and below: each pointer comes with the length of a live
-        // slice or points to a live number, and nothing is kept.
-        unsafe {
-            tteokbiran_judge(
-                book.as_ptr(),
-                book.len(),
-                plan.as_ptr(),
-                plan.len(),
-                &mut number,
-                &mut a,
-                &mut b,
-                &mut c,
-            );
-        }
-        [number, a, b, c]
+        answered(|[number, a, b, c]| unsafe {
+            tteokbiran_judge(book.as_ptr(), book.len(), plan.as_ptr(), plan.len(), number, a, b, c);
+        })
     }
 
     pub fn judge_sheet(sheet: &[u8], plan: &[u8]) -> Answer {
-        let [mut number, mut a, mut b, mut c] = [UNSET; 4];
-        unsafe {
+        answered(|[number, a, b, c]| unsafe {
             tteokbiran_judge_sheet(
                 sheet.as_ptr(),
                 sheet.len(),
                 plan.as_ptr(),
                 plan.len(),
-                &mut number,
-                &mut a,
-                &mut b,
-                &mut c,
+                number,
+                a,
+                b,
+                c,
             );
-        }
-        [number, a, b, c]
+        })
     }
 
     pub fn translate(sheet: &[u8], room: &mut [u32]) -> Answer {
-        let [mut number, mut a, mut b, mut c] = [UNSET; 4];
-        unsafe {
-            tteokbiran_translate(
-                sheet.as_ptr(),
-                sheet.len(),
-                room.as_mut_ptr(),
-                room.len(),
-                &mut number,
-                &mut a,
-                &mut b,
-                &mut c,
-            );
-        }
-        [number, a, b, c]
+        let (words, len) = (room.as_mut_ptr(), room.len());
+        answered(|[number, a, b, c]| unsafe {
+            tteokbiran_translate(sheet.as_ptr(), sheet.len(), words, len, number, a, b, c);
+        })
     }
 
     pub fn narrow(sheet: &[u8], alternative: u32, table: &mut [u32]) -> Answer {
-        let [mut number, mut a, mut b, mut c] = [UNSET; 4];
-        unsafe {
-            tteokbiran_narrow(
-                sheet.as_ptr(),
-                sheet.len(),
-                alternative,
-                table.as_mut_ptr(),
-                table.len(),
-                &mut number,
-                &mut a,
-                &mut b,
-                &mut c,
-            );
-        }
-        [number, a, b, c]
+        let (words, len) = (table.as_mut_ptr(), table.len());
+        answered(|[number, a, b, c]| unsafe {
+            let sheet = (sheet.as_ptr(), sheet.len());
+            tteokbiran_narrow(sheet.0, sheet.1, alternative, words, len, number, a, b, c);
+        })
     }
 
     pub fn earliest(book: &[u8], alternative: u32, times: &mut [u64]) -> Answer {
-        let [mut number, mut a, mut b, mut c] = [UNSET; 4];
-        unsafe {
-            tteokbiran_earliest(
-                book.as_ptr(),
-                book.len(),
-                alternative,
-                times.as_mut_ptr(),
-                times.len(),
-                &mut number,
-                &mut a,
-                &mut b,
-                &mut c,
-            );
-        }
-        [number, a, b, c]
+        let (words, len) = (times.as_mut_ptr(), times.len());
+        answered(|[number, a, b, c]| unsafe {
+            let book = (book.as_ptr(), book.len());
+            tteokbiran_earliest(book.0, book.1, alternative, words, len, number, a, b, c);
+        })
     }
 
     /// The answer, and the token number that the reader stands at.
     pub fn open(book: &[u32], plan: &[u32], line: u32) -> (Answer, u32) {
-        let [mut number, mut a, mut b, mut c, mut token] = [UNSET; 5];
-        unsafe {
+        let mut token = UNSET;
+        let answer = answered(|[number, a, b, c]| unsafe {
             tteokbiran_open(
                 book.as_ptr(),
                 book.len(),
                 plan.as_ptr(),
                 plan.len(),
                 line,
-                &mut number,
-                &mut a,
-                &mut b,
-                &mut c,
+                number,
+                a,
+                b,
+                c,
                 &mut token,
             );
-        }
-        ([number, a, b, c], token)
+        });
+        (answer, token)
     }
 
     pub fn step(plan: &[u32], at: Position) -> Step {
