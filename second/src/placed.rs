@@ -9,12 +9,14 @@ pub struct Span {
 }
 
 /// Start and end of the trigger and of up to four names, then a 0 for tests
-/// that speak of no token.
-pub struct Placed([i64; 11]);
+/// that speak of no token, and the end of the plan.
+pub struct Placed([i64; 12]);
 
 impl Placed {
     /// Where the 0 is.
     pub const ZERO: usize = 10;
+    /// Where the end of the plan is.
+    pub const PLAN_END: usize = 11;
 
     pub fn start(token: usize) -> usize {
         2 * token
@@ -24,8 +26,9 @@ impl Placed {
         2 * token + 1
     }
 
-    pub fn new(trigger: Span) -> Placed {
-        let mut placed = Placed([0; 11]);
+    pub fn new(trigger: Span, plan_end: u32) -> Placed {
+        let mut placed = Placed([0; 12]);
+        placed.0[Placed::PLAN_END] = i64::from(plan_end);
         placed.put(0, trigger);
         placed
     }

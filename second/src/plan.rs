@@ -4,10 +4,11 @@ use crate::decode::{Book, Value};
 use crate::layout::{Answer, LAST, MAX_TOKENS, MAX_WORDS, N};
 use crate::placed::Span;
 
-/// The tokens of each value, in the order of their line.
+/// The tokens of each value, in the order of their line, and where all lines end.
 pub struct Tokens {
     spans: Vec<Span>,
     first: Vec<usize>,
+    pub end: u32,
 }
 
 impl Tokens {
@@ -72,7 +73,8 @@ pub fn tokens<T>(book: &Book<T>, words: &[u32]) -> Result<Tokens, Answer> {
     for value in 1..first.len() {
         first[value] += first[value - 1];
     }
-    Ok(Tokens { spans: gather(&split, &first), first })
+    // No line ends after the last tick, so the end fits.
+    Ok(Tokens { spans: gather(&split, &first), first, end: ends[0] as u32 })
 }
 
 /// Faults 8 to 11 of one line, each with its token; counts the tokens. Gives

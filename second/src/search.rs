@@ -6,7 +6,8 @@ use crate::placed::{Placed, Span};
 use crate::plan::Tokens;
 
 /// Where a term's time stands among the placed ones, the name it needs, and
-/// what to add. A time point stands at the 0 and adds itself.
+/// what to add. A time point stands at the 0 and adds itself. The end of the
+/// plan needs no name.
 struct Term {
     place: usize,
     name: usize,
@@ -15,12 +16,15 @@ struct Term {
 
 impl Term {
     /// The kinds that there are.
-    const KINDS: std::ops::RangeInclusive<u32> = 0..=2;
+    const KINDS: std::ops::RangeInclusive<u32> = 0..=3;
 
     fn read(kind: u32, argument: u32, owner: &Owner) -> Option<Term> {
         if kind == 2 {
             let add = i64::from(argument);
             return (argument <= LAST).then_some(Term { place: Placed::ZERO, name: 0, add });
+        }
+        if kind == 3 {
+            return (argument == 0).then_some(Term { place: Placed::PLAN_END, name: 0, add: 0 });
         }
         let name = owner.token(argument)?;
         let place = match kind {
@@ -113,7 +117,7 @@ fn can_be_met<T: Test>(
     for (k, own) in tests.iter_mut().enumerate() {
         *own = &book.tests[ready[k]..ready[k + 1]];
     }
-    let mut placed = Placed::new(trigger);
+    let mut placed = Placed::new(trigger, tokens.end);
     if !tests[0].iter().all(|t| t.holds(&placed)) {
         return false;
     }

@@ -4,8 +4,13 @@
 use crate::generate::draft::{alternative, plan_words, AlternativeDraft, Draft, NO_TRIGGER};
 use crate::layout::{Answer, Kind, LAST, N};
 
+mod plan_end;
+
 pub enum Call {
     Judge(Vec<u32>, Vec<u32>),
+    /// A book alone, which is judged with a plan of no words: a sound one gets
+    /// as far as 5.
+    Check(Vec<u32>),
     JudgeSheet(Vec<u32>, Vec<u32>),
     /// A sheet and the words of room.
     Translate(Vec<u32>, usize),
@@ -41,6 +46,8 @@ pub const E_SHEET: [u32; 43] = [
 pub const P1: [u32; 21] = [1, 21, 2, 0, 3, 3, 4, 0, 10, 1, 30, 0, 10, 0, 10, 1, 20, 0, 10, 1, 10];
 pub const P2: [u32; 19] = [1, 19, 2, 0, 2, 2, 4, 0, 10, 1, 40, 0, 10, 1, 20, 0, 10, 1, 10];
 pub const EMPTY_PLAN: [u32; 7] = [1, 7, 2, 0, 0, 0, 0];
+/// What a sound book gets with a plan of no words.
+pub const SOUND: Answer = [5, 0, 0, 0];
 
 /// The plan with one word changed.
 pub fn with(words: &[u32], at: usize, word: u32) -> Vec<u32> {
@@ -88,6 +95,7 @@ pub fn all() -> Vec<Specimen> {
     list.extend(ends());
     list.extend(earliest());
     list.extend(wrong_words());
+    list.extend(plan_end::all());
     list
 }
 

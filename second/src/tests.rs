@@ -1,7 +1,7 @@
 use crate::generate::draft::{end, plan_words, AlternativeDraft, Draft, Lines, NO_TRIGGER};
 use crate::generate::random::{pair, SMALL};
 use crate::generate::rng::Rng;
-use crate::generate::{extreme, load, slow};
+use crate::generate::{extreme, load, plan_end, slow};
 use crate::layout::{Answer, Kind, LAST, N};
 use crate::specimens::{all, with, Call, E, EMPTY_PLAN, E_SHEET, P1, P2};
 use crate::words::to_bytes;
@@ -12,6 +12,7 @@ fn specimens_give_their_lines() {
     for specimen in all() {
         let answer = match &specimen.call {
             Call::Judge(book, plan) => judge(book, plan),
+            Call::Check(book) => judge(book, &[]),
             Call::JudgeSheet(sheet, plan) => judge_sheet(sheet, plan),
             Call::Translate(sheet, room) => translate(sheet, &mut vec![0; *room]),
             Call::Earliest(book, number, times) => {
@@ -84,7 +85,7 @@ fn header_faults_name_the_first_wrong_word() {
 
 #[test]
 fn record_faults() {
-    let cases: [(usize, u32, Answer); 24] = [
+    let cases: [(usize, u32, Answer); 25] = [
         (14, 1, [4, 0, 0, 0]),
         (15, 0, [4, 0, 0, 1]),
         (15, 33, [4, 0, 0, 1]),
@@ -105,7 +106,8 @@ fn record_faults() {
         (37, 1, [4, 3, 1, 0]),
         (38, 2, [4, 4, 0, 0]),
         (39, 2, [4, 4, 0, 1]),
-        (40, 3, [4, 5, 0, 0]),
+        (40, 3, [4, 5, 0, 1]),
+        (40, 9, [4, 5, 0, 0]),
         (41, 2, [4, 5, 0, 1]),
         (50, LAST + 1, [4, 5, 1, 4]),
         (51, N - 1, [4, 5, 1, 5]),
@@ -291,7 +293,7 @@ fn slow_answer(draft: &Draft, lines: &Lines) -> Answer {
                     };
                     choices = choices.iter().flat_map(longer).collect();
                 }
-                choices.iter().any(|c| a.tests.iter().all(|t| slow_test(t, c)))
+                choices.iter().any(|c| a.tests.iter().all(|t| slow_test(t, c, ends[0])))
             });
             if !met {
                 return [12, number as u32, trigger.2, 0];
@@ -302,11 +304,12 @@ fn slow_answer(draft: &Draft, lines: &Lines) -> Answer {
     [0, examined, 0, 0]
 }
 
-fn slow_test(test: &[u32], chosen: &[(i64, i64, u32)]) -> bool {
+fn slow_test(test: &[u32], chosen: &[(i64, i64, u32)], plan_end: u32) -> bool {
     let time = |kind: u32, argument: u32| match kind {
         0 => chosen[argument as usize].0,
         1 => chosen[argument as usize].1,
-        _ => i64::from(argument),
+        2 => i64::from(argument),
+        _ => i64::from(plan_end),
     };
     let difference = time(test[2], test[3]) - time(test[0], test[1]);
     difference >= i64::from(test[4]) && (test[5] == N || difference <= i64::from(test[5]))
@@ -325,6 +328,20 @@ fn the_search_agrees_with_trying_everything() {
     }
     assert!(met > 300, "{met} were met");
     assert!((100..500).contains(&apart), "{apart} had lines that end apart");
+}
+
+#[test]
+fn the_end_of_the_plan_decides() {
+    let [mut met, mut failed] = [0; 2];
+    for case in 0..3_000 {
+        let (draft, lines) = plan_end::case(&mut Rng::new(8, case));
+        let answer = judge(&draft.words(), &plan_words(&lines));
+        assert_eq!(answer, slow_answer(&draft, &lines), "case {case}");
+        let free = judge(&plan_end::without(&draft).words(), &plan_words(&lines));
+        met += u32::from(answer[0] == 0 && answer[1] > 0);
+        failed += u32::from(answer[0] == 12 && free[0] == 0);
+    }
+    assert!(met > 300 && failed > 300, "{met} were met, {failed} failed by the end");
 }
 
 #[test]

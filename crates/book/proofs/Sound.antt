@@ -68,8 +68,10 @@ token-right n trigger x = (
 term-right : (n : ℕ) (trigger : Bool) (kind x : ℕ)
     → ((kindWrong kind ≡ false) × (argumentWrong n trigger kind x ≡ false)) ↔ TermSound n trigger kind x
 term-right n trigger kind x = (
-  λ h. let p = simp (token-right, plain) at h in record { kinds = omega arith; point = λ q. omega (arith, p .1 .0 q); token = p .1 .1 },
-  λ s. simp (token-right, plain) (omega arith, (λ q. omega (arith, s .point q), s .token)),
+  λ h.
+      let p = simp (token-right, plain) at h in
+      record { kinds = omega arith; point = λ q. omega (arith, p .1 .0 q); last = p .1 .1 .0; token = p .1 .1 .1 },
+  λ s. simp (token-right, plain) (omega arith, (λ q. omega (arith, s .point q), (s .last, s .token))),
 )
 
 -- ---- the words of each table's record, in plain numbers and back

@@ -98,13 +98,17 @@ specimens =
     ∷ (1, set bookE 38 2, numbersAt 4 4 0 0)
     ∷ (1, set bookE 39 2, numbersAt 4 4 0 1)
     -- atoms: kind, argument, trigger, bounds
-    ∷ (1, set bookE 40 3, numbersAt 4 5 0 0)
+    ∷ (1, set bookE 40 4, numbersAt 4 5 0 0)
     ∷ (1, set bookE 47 2, numbersAt 4 5 1 1)
     ∷ (1, freeE, numbersAt 4 5 0 3)
     ∷ (1, set bookE 46 2, noFault)
     ∷ (1, puts bookE 46 (2 ∷ 1000000001 ∷ []), numbersAt 4 5 1 1)
     ∷ (1, set bookE 50 1000000001, numbersAt 4 5 1 4)
     ∷ (1, puts bookE 50 (5 ∷ 4 ∷ []), numbersAt 4 5 1 5)
+    -- "kind 3, end of the plan, argument 0", on either side or on both; "another argument gets 4"
+    ∷ (1, puts bookE 40 (3 ∷ 0 ∷ 3 ∷ 0 ∷ []), noFault)
+    ∷ (1, puts bookE 40 (3 ∷ 1 ∷ []), numbersAt 4 5 0 1)
+    ∷ (1, puts bookE 42 (3 ∷ 1 ∷ []), numbersAt 4 5 0 3)
     -- constraints: token, set
     ∷ (2, set sheetE 41 2, numbersAt 4 5 0 1)
     ∷ (2, set sheetE 42 0, numbersAt 4 5 0 2)

@@ -35,10 +35,12 @@ pub record TokenSound (n : ℕ) (trigger : Bool) (x : ℕ) : Type 0 where
   pub named : x ≤ n
   pub triggered : x ≡ 0 → trigger ≡ true
 
--- "A term's kind is 0 start of, 1 end of, 2 time point. For 0 and 1 the argument is" a token. "A time point is 0..1,000,000,000"
+-- "A term's kind is 0 start of, 1 end of, 2 time point. For 0 and 1 the argument is" a token. "A time point is 0..1,000,000,000". And
+-- "kind 3, end of the plan, argument 0"
 pub record TermSound (n : ℕ) (trigger : Bool) (kind argument : ℕ) : Type 0 where
-  pub kinds : kind ≤ 2
+  pub kinds : kind ≤ 3
   pub point : kind ≡ 2 → argument ≤ lastTick
+  pub last : kind ≡ 3 → argument ≡ 0
   pub token : kind < 2 → TokenSound n trigger argument
 
 -- ---- the records of each table

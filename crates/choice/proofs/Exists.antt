@@ -12,7 +12,8 @@ use borrow.Author.Tests.{eqb-true, eq-eqb}
 use Rattle.words.specs.Lists.{any, all}
 use Rattle.book.specs.Rules.{Name, Alternative, Rule}
 use Rattle.lines.specs.declared.Token.{Token}
-use Rattle.choice.specs.Met.{Choice, nobody, triggered, put, tokenTime, place, alternativeMet, met}
+use Rattle.lines.specs.Ends.{planEnd}
+use Rattle.choice.specs.Met.{Choice, nobody, timePlace, triggered, put, tokenTime, endTime, place, alternativeMet, met}
 pub use Rattle.choice.specs.Exists.{Among, Serves, chosen, choiceOf, noName, Meets, Met, Placed}
 
 -- ---- laws of tests over a list
@@ -102,19 +103,21 @@ module _ (lines : ℕ → List Token) (p : Choice → Bool) where
 
 module _ {C : Type 0} (holds : Choice → C → Bool) (lines : ℕ → List Token) (t : Token) where
   -- an alternative is met exactly if there are tokens that meet it
-  pub alternative-iff : (a : Alternative C) → (alternativeMet holds lines (triggered t) a ≡ true) ↔ ((ts : List Token) × Meets holds lines t a ts)
+  pub alternative-iff : (a : Alternative C)
+      → (alternativeMet holds lines (triggered (planEnd lines) t) a ≡ true) ↔ ((ts : List Token) × Meets holds lines t a ts)
   unfolding alternativeMet choiceOf
   alternative-iff a =
+      let c : Choice = triggered (planEnd lines) t in
       let p : Choice → Bool = λ d. all (holds d) (a .asks) in (
-        λ h. let q = placed-of lines p (a .names) 1 (triggered t) h in (
+        λ h. let q = placed-of lines p (a .names) 1 c h in (
           q .0,
           record {
             each = q .1 .each;
             serve = q .1 .serve;
-            hold = λ x m. ap (holds (chosen (triggered t) 1 (q .0))) (sym (m .here)) ∙ all-each _ (a .asks) (q .1 .pass) x (m .index) (m .within);
+            hold = λ x m. ap (holds (chosen c 1 (q .0))) (sym (m .here)) ∙ all-each _ (a .asks) (q .1 .pass) x (m .index) (m .within);
           },
         ),
-        λ q. of-placed lines p (a .names) 1 (triggered t) (q .0)
+        λ q. of-placed lines p (a .names) 1 c (q .0)
             (record { each = q .1 .each; serve = q .1 .serve; pass = each-all _ (a .asks) (q .1 .hold) }),
       )
 
@@ -130,10 +133,11 @@ module _ {C : Type 0} (holds : Choice → C → Bool) (lines : ℕ → List Toke
 
 -- ---- which times the choice has
 
--- start and end of five tokens, and nobody's where there are fewer
-abbrev laid : List Token → Choice
-laid l =
-    getD l 0 nobody .start .tick
+-- the plan's end, and start and end of five tokens, and nobody's where there are fewer
+abbrev laid : ℕ → List Token → Choice
+laid last l =
+    last
+    ∷ getD l 0 nobody .start .tick
     ∷ getD l 0 nobody .end .tick
     ∷ getD l 1 nobody .start .tick
     ∷ getD l 1 nobody .end .tick
@@ -145,31 +149,37 @@ laid l =
     ∷ getD l 4 nobody .end .tick
     ∷ []
 
-choice-laid : (t : Token) (ts : List Token) → length ts ≤ 4 → choiceOf t ts ≡ laid (t ∷ ts)
+choice-laid : (last : ℕ) (t : Token) (ts : List Token) → length ts ≤ 4 → choiceOf last t ts ≡ laid last (t ∷ ts)
 unfolding choiceOf chosen put
-choice-laid t [] l = refl
-choice-laid t (a ∷ []) l = refl
-choice-laid t (a ∷ (b ∷ [])) l = refl
-choice-laid t (a ∷ (b ∷ (c ∷ []))) l = refl
-choice-laid t (a ∷ (b ∷ (c ∷ (d ∷ [])))) l = refl
-choice-laid t (a ∷ (b ∷ (c ∷ (d ∷ (e ∷ ts))))) l = absurd (omega arith)
+choice-laid last t [] l = refl
+choice-laid last t (a ∷ []) l = refl
+choice-laid last t (a ∷ (b ∷ [])) l = refl
+choice-laid last t (a ∷ (b ∷ (c ∷ []))) l = refl
+choice-laid last t (a ∷ (b ∷ (c ∷ (d ∷ [])))) l = refl
+choice-laid last t (a ∷ (b ∷ (c ∷ (d ∷ (e ∷ ts))))) l = absurd (omega arith)
 
-laid-time : (l : List Token) (k : ℕ) → length l ≤ 5
-    → (tokenTime (laid l) 0 k ≡ getD l k nobody .start .tick) × (tokenTime (laid l) 1 k ≡ getD l k nobody .end .tick)
+laid-time : (last : ℕ) (l : List Token) (k : ℕ) → length l ≤ 5
+    → (tokenTime (laid last l) 0 k ≡ getD l k nobody .start .tick) × (tokenTime (laid last l) 1 k ≡ getD l k nobody .end .tick)
 unfolding tokenTime
-laid-time l zero h = (refl, refl)
-laid-time l (suc zero) h = (refl, refl)
-laid-time l (suc (suc zero)) h = (refl, refl)
-laid-time l (suc (suc (suc zero))) h = (refl, refl)
-laid-time l (suc (suc (suc (suc zero)))) h = (refl, refl)
-laid-time l (suc (suc (suc (suc (suc k))))) h =
+laid-time last l zero h = (refl, refl)
+laid-time last l (suc zero) h = (refl, refl)
+laid-time last l (suc (suc zero)) h = (refl, refl)
+laid-time last l (suc (suc (suc zero))) h = (refl, refl)
+laid-time last l (suc (suc (suc (suc zero)))) h = (refl, refl)
+laid-time last l (suc (suc (suc (suc (suc k))))) h =
     let j = suc (suc (suc (suc (suc k)))) in
     let past = List·getD-eq-default l nobody {n = j} (omega arith) in (
-      List·getD-eq-default (laid l) 0 {n = 2 * j + 0} (omega arith) ∙ ap (λ (t : Token). t .start .tick) (sym past),
-      List·getD-eq-default (laid l) 1 {n = 2 * j + 1} (omega arith) ∙ ap (λ (t : Token). t .end .tick) (sym past),
+      List·getD-eq-default (laid last l) 0 {n = timePlace 0 j} (omega arith) ∙ ap (λ (t : Token). t .start .tick) (sym past),
+      List·getD-eq-default (laid last l) 1 {n = timePlace 1 j} (omega arith) ∙ ap (λ (t : Token). t .end .tick) (sym past),
     )
 
 -- the start and the end that an argument names are those of its token: "0 for the trigger or 1..n for the alternative's names"
-pub choice-time : (t : Token) (ts : List Token) (k : ℕ) → length ts ≤ 4
-    → (tokenTime (choiceOf t ts) 0 k ≡ getD (t ∷ ts) k nobody .start .tick) × (tokenTime (choiceOf t ts) 1 k ≡ getD (t ∷ ts) k nobody .end .tick)
-choice-time t ts k h = rw (choice-laid t ts h) (laid-time (t ∷ ts) k (omega arith))
+pub choice-time : (last : ℕ) (t : Token) (ts : List Token) (k : ℕ) → length ts ≤ 4
+    → (tokenTime (choiceOf last t ts) 0 k ≡ getD (t ∷ ts) k nobody .start .tick)
+    × (tokenTime (choiceOf last t ts) 1 k ≡ getD (t ∷ ts) k nobody .end .tick)
+choice-time last t ts k h = rw (choice-laid last t ts h) (laid-time last (t ∷ ts) k (omega arith))
+
+-- and the end of the plan is that of the choice
+pub choice-end : (last : ℕ) (t : Token) (ts : List Token) → length ts ≤ 4 → endTime (choiceOf last t ts) ≡ last
+unfolding endTime
+choice-end last t ts h = rw (choice-laid last t ts h)

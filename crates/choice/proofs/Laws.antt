@@ -8,7 +8,7 @@ use native.Mathlib.Nat.{mul-le-mul, add-zero}
 use native.Mathlib.Omega.{arith}
 use native.Mathlib.Numerals.{sub-one}
 use lib.ListN.{length, getD, set, length-set}
-use lib.Seq.{getD-set-same, getD-set-other}
+use lib.Seq.{getD-set-same, getD-set-other, set-out}
 use Rattle.words.specs.Words.{word}
 use Rattle.words.specs.Lists.{any, all}
 use Rattle.words.specs.Runs.{run}
@@ -18,7 +18,7 @@ use Rattle.layout.specs.Layout.{fifthWidth}
 use Rattle.book.specs.Rules.{atomAt}
 use Rattle.lines.specs.declared.Token.{Token}
 use Rattle.choice.specs.declared.Alternative.{Alternative}
-use Rattle.choice.specs.Met.{Choice, put, tokenTime, timeOf, atomHolds}
+use Rattle.choice.specs.Met.{Choice, endPlace, timePlace, put, tokenTime, endTime, timeOf, atomHolds}
 use Rattle.choice.specs.Exists.{chosen}
 use Rattle.choice.specs.Asked.{askHolds, allHold, askPasses, holdSoFar}
 
@@ -86,19 +86,32 @@ inside (x ∷ xs) (suc i) d d' h = inside xs i d d' (omega arith)
 
 -- what is put for name number k
 module _ (r : Choice) (k a z : ℕ) where
-  pub put-first : 2 * k + 1 < length r → tokenTime (put r k a z) 0 k ≡ a
+  pub put-first : timePlace 1 k < length r → tokenTime (put r k a z) 0 k ≡ a
   unfolding tokenTime put
   put-first h =
-      getD-set-other (set r (2 * k) a) (2 * k + 1) (2 * k + 0) z 0 (λ q. omega arith) ∙ rw add-zero (getD-set-same r (2 * k) a 0 (omega arith))
+      getD-set-other (set r (timePlace 0 k) a) (timePlace 1 k) (timePlace 0 k) z 0 (λ q. omega arith)
+      ∙ getD-set-same r (timePlace 0 k) a 0 (omega arith)
 
-  pub put-second : 2 * k + 1 < length r → tokenTime (put r k a z) 1 k ≡ z
+  pub put-second : timePlace 1 k < length r → tokenTime (put r k a z) 1 k ≡ z
   unfolding tokenTime put
-  put-second h = getD-set-same (set r (2 * k) a) (2 * k + 1) z 1 (simp length-set (omega arith))
+  put-second h = getD-set-same (set r (timePlace 0 k) a) (timePlace 1 k) z 1 (rw length-set h)
 
   pub put-else : (kind x : ℕ) → kind < 2 → (x ≡ k → ⊥) → tokenTime (put r k a z) kind x ≡ tokenTime r kind x
   unfolding tokenTime put
   put-else kind x l f =
-      getD-set-other (set r (2 * k) a) (2 * k + 1) (2 * x + kind) z kind (λ q. f (omega arith)) ∙ getD-set-other r (2 * k) (2 * x + kind) a kind (λ q. f (omega arith))
+      getD-set-other (set r (timePlace 0 k) a) (timePlace 1 k) (timePlace kind x) z kind (λ q. f (omega arith))
+      ∙ getD-set-other r (timePlace 0 k) (timePlace kind x) a kind (λ q. f (omega arith))
+
+  pub put-end : endTime (put r k a z) ≡ endTime r
+  unfolding endTime put
+  put-end =
+      getD-set-other (set r (timePlace 0 k) a) (timePlace 1 k) endPlace z 0 (λ q. omega arith)
+      ∙ getD-set-other r (timePlace 0 k) endPlace a 0 (λ q. omega arith)
+
+  -- past the fourth name nothing is put
+  pub put-out : length r ≤ timePlace 0 k → put r k a z ≡ r
+  unfolding put
+  put-out h = rw (set-out r (timePlace 0 k) a h) (set-out r (timePlace 1 k) z (omega arith))
 
   pub put-long : length (put r k a z) ≡ length r
   unfolding put
@@ -111,3 +124,9 @@ chosen-before c k [] kind x l h = refl
 chosen-before c k (t ∷ ts) kind x l h =
     chosen-before (put c k (t .start .tick) (t .end .tick)) (k + 1) ts kind x l (omega arith)
     ∙ put-else c k (t .start .tick) (t .end .tick) kind x l (λ q. omega arith)
+
+-- and so does the end of the plan
+pub chosen-end : (c : Choice) (k : ℕ) (ts : List Token) → endTime (chosen c k ts) ≡ endTime c
+unfolding chosen
+chosen-end c k [] = refl
+chosen-end c k (t ∷ ts) = chosen-end (put c k (t .start .tick) (t .end .tick)) (k + 1) ts ∙ put-end c k (t .start .tick) (t .end .tick)

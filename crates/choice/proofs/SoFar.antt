@@ -15,10 +15,10 @@ use Rattle.layout.specs.Layout.{fifthWidth}
 use Rattle.book.specs.Rules.{nameAt, atomAt, constraintAt}
 use Rattle.lines.specs.Lines.{lineOf}
 use Rattle.choice.specs.declared.Alternative.{Alternative}
-use Rattle.choice.specs.Met.{Choice, tokenTime, timeOf, atomHolds, constraintHolds, place}
+use Rattle.choice.specs.Met.{Choice, tokenTime, endTime, timeOf, atomHolds, constraintHolds, place}
 use Rattle.choice.specs.Exists.{chosen}
 use Rattle.choice.specs.Asked.{askHolds, allHold, asksHold, placeable, termPlaced, askPlaced, askPasses, holdSoFar}
-use Rattle.choice.proofs.Laws.{chosen-before}
+use Rattle.choice.proofs.Laws.{chosen-before, chosen-end}
 use Rattle.choice.proofs.Exists.{placed-of}
 
 both : (a b : Bool) → (a && b) ≡ true → (a ≡ true) × (b ≡ true)
@@ -72,18 +72,19 @@ module _ (b : List ℕ) (a : Alternative) (c : Choice) (j : ℕ) (last : a .name
 
 -- ---- before that
 
-module _ (c d : Choice) (j : ℕ) (same : (kind x : ℕ) → kind < 2 → x ≤ j → tokenTime d kind x ≡ tokenTime c kind x) where
+module _ (c d : Choice) (j : ℕ) (last : endTime d ≡ endTime c) (same : (kind x : ℕ) → kind < 2 → x ≤ j → tokenTime d kind x ≡ tokenTime c kind x) where
   -- a term that is placed
   term-same : (kind x : ℕ) → termPlaced kind x j ≡ true → timeOf d kind x ≡ timeOf c kind x
   unfolding termPlaced timeOf
-  term-same kind x h = go (eqb kind 2) refl (ltb kind 2) refl (leb x j) refl h
+  term-same kind x h = go (eqb kind 2) (eqb kind 3) (ltb kind 2) refl (leb x j) refl h
     where
-      go : (f : Bool) → eqb kind 2 ≡ f → (g : Bool) → ltb kind 2 ≡ g → (l : Bool) → leb x j ≡ l → (f || (g && l)) ≡ true
-          → cond f x (tokenTime d kind x) ≡ cond f x (tokenTime c kind x)
-      go true _ g _ l _ h = refl
-      go false _ true q true r h = same kind x (ltb-true kind 2 q) (leb-true x j r)
-      go false _ true q false r h = absurd (false≢true h)
-      go false _ false q l r h = absurd (false≢true h)
+      go : (f e g : Bool) → ltb kind 2 ≡ g → (l : Bool) → leb x j ≡ l → ((f || e) || (g && l)) ≡ true
+          → cond f x (cond e (endTime d) (tokenTime d kind x)) ≡ cond f x (cond e (endTime c) (tokenTime c kind x))
+      go true e g _ l _ h = refl
+      go false true g _ l _ h = last
+      go false false true q true r h = same kind x (ltb-true kind 2 q) (leb-true x j r)
+      go false false true q false r h = absurd (false≢true h)
+      go false false false q l r h = absurd (false≢true h)
 
   token-same : (x : ℕ) → termPlaced 0 x j ≡ true → (tokenTime d 0 x ≡ tokenTime c 0 x) × (tokenTime d 1 x ≡ tokenTime c 1 x)
   unfolding termPlaced
@@ -134,5 +135,5 @@ so-far-fails b p a n j c more fails = go (place (lineOf p) (asksHold b a) (run (
     go true h =
         let q = placed-of (lineOf p) (asksHold b a) (run (nameAt b) 2 n (a .name + j * 2)) (j + 1) c h in
         let d = chosen c (j + 1) (q .0) in
-        let must = all-must c d j (λ kind x k l. chosen-before c (j + 1) (q .0) kind x k (omega arith)) b a more (a .asks) (a .ask) (q .1 .pass) in
+        let must = all-must c d j (chosen-end c (j + 1) (q .0)) (λ kind x k l. chosen-before c (j + 1) (q .0) kind x k (omega arith)) b a more (a .asks) (a .ask) (q .1 .pass) in
         absurd (false≢true (sym fails ∙ must))

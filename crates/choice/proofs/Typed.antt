@@ -13,6 +13,7 @@ use Rattle.book.specs.Rules.{Name, Alternative, Rule, Fifth, nameAt, alternativ
 use Rattle.book.specs.Encode.{atoms, constraints}
 use Rattle.lines.specs.declared.Token.{Token}
 use Rattle.lines.specs.Lines.{lineOf}
+use Rattle.lines.specs.Ends.{planEnd}
 use Rattle.choice.specs.Met.{Choice, put, triggered, atomHolds, constraintHolds, place, alternativeMet, met}
 use Rattle.choice.specs.Asked.{places, askHolds, metAt}
 
@@ -91,10 +92,10 @@ module _ {C : Type 0} (t5 : Fifth C) (holds : Choice → C → Bool) (e : ℕ) (
 
   -- THE THEOREM: a rule is met for a trigger token by what it asks exactly if it is by the places of what it asks
   pub met-same : (lines : ℕ → List Token) (k : ℕ) (t : Token)
-      → met holds lines (ruleAt t5 b k) t ≡ any (alternativeMet (askHolds e b) lines (triggered t)) (ruleAt (places e) b k .alternatives)
+      → met holds lines (ruleAt t5 b k) t ≡ any (alternativeMet (askHolds e b) lines (triggered (planEnd lines) t)) (ruleAt (places e) b k .alternatives)
   unfolding met ruleAt
   met-same lines k t =
-      run-any _ _ (alternativeAt t5 b) (alternativeAt (places e) b) 4 (word b (k + 3)) (offset b 3 + 4 * word b (k + 2)) (alternative-same lines (triggered t))
+      run-any _ _ (alternativeAt t5 b) (alternativeAt (places e) b) 4 (word b (k + 3)) (offset b 3 + 4 * word b (k + 2)) (alternative-same lines (triggered (planEnd lines) t))
 
   -- so the search for the alternatives of the rule at a place answers by the decoded rule
   pub met-at : (p : List ℕ) (k : ℕ) (t : Token) → metAt e b p t (word b (k + 3)) (offset b 3 + 4 * word b (k + 2)) ≡ met holds (lineOf p) (ruleAt t5 b k) t

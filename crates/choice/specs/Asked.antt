@@ -11,6 +11,7 @@ use Rattle.layout.specs.Layout.{fifthWidth, offset}
 use Rattle.book.specs.Rules.{Fifth, nameAt, atomAt, constraintAt, alternativeAt}
 use Rattle.lines.specs.declared.Token.{Token}
 use Rattle.lines.specs.Lines.{lineOf, lineCount, linePlace}
+use Rattle.lines.specs.Ends.{planEnd}
 use Rattle.choice.specs.declared.Tokens.{Tokens}
 use Rattle.choice.specs.declared.Alternative.{Alternative}
 use Rattle.choice.specs.Met.{Choice, atomHolds, constraintHolds, place, alternativeMet, triggered}
@@ -35,15 +36,19 @@ asksHold b a c = allHold (a .edition) b c (a .asks) (a .ask)
 unfoldable pub placeable : List ℕ → List ℕ → Alternative → ℕ → ℕ → Choice → Bool
 placeable b p a n j c = place (lineOf p) (asksHold b a) (run (nameAt b) 2 n (a .name + j * 2)) (j + 1) c
 
+-- the choice of the trigger token t alone, in the plan p
+abbrev pub triggeredIn : List ℕ → Token → Choice
+triggeredIn p t = triggered (planEnd (lineOf p)) t
+
 -- one of the n alternatives from a place on is met for the trigger token t
 unfoldable pub metAt : ℕ → List ℕ → List ℕ → Token → ℕ → ℕ → Bool
-metAt e b p t n at = any (alternativeMet (askHolds e b) (lineOf p) (triggered t)) (run (alternativeAt (places e) b) 4 n at)
+metAt e b p t n at = any (alternativeMet (askHolds e b) (lineOf p) (triggeredIn p t)) (run (alternativeAt (places e) b) 4 n at)
 
 -- ---- what can be tested before all names have their tokens
 
--- the time of a term is known once j names have their tokens: a time point's, the trigger's, and that of one of those names
+-- the time of a term is known once j names have their tokens: a time point's, the plan's end, the trigger's, and that of one of those names
 unfoldable pub termPlaced : ℕ → ℕ → ℕ → Bool
-termPlaced kind x j = eqb kind 2 || (ltb kind 2 && leb x j)
+termPlaced kind x j = (eqb kind 2 || eqb kind 3) || (ltb kind 2 && leb x j)
 
 -- and so is all that an atom, or a constraint, names
 unfoldable pub askPlaced : ℕ → List ℕ → ℕ → ℕ → Bool

@@ -8,6 +8,7 @@ use Prim.Native.Nat.{ℕ, _+_, _<_}
 use lib.ListN.{length, getD}
 use Rattle.book.specs.Rules.{Name, Alternative, Rule}
 use Rattle.lines.specs.declared.Token.{Token}
+use Rattle.lines.specs.Ends.{planEnd}
 use Rattle.choice.specs.Met.{Choice, nobody, triggered, put}
 
 -- x is one of xs
@@ -26,9 +27,9 @@ unfoldable pub chosen : Choice → ℕ → List Token → Choice
 chosen c k [] = c
 chosen c k (t ∷ ts) = chosen (put c k (t .start .tick) (t .end .tick)) (k + 1) ts
 
--- the choice of the trigger token t and of tokens for the names, in their order
-unfoldable pub choiceOf : Token → List Token → Choice
-choiceOf t ts = chosen (triggered t) 1 ts
+-- the choice of the trigger token t and of tokens for the names, in their order, in a plan that ends at `end`
+unfoldable pub choiceOf : ℕ → Token → List Token → Choice
+choiceOf end t ts = chosen (triggered end t) 1 ts
 
 -- what stands for a name past the last one
 abbrev pub noName : Name
@@ -41,7 +42,7 @@ module _ {C : Type 0} (holds : Choice → C → Bool) (lines : ℕ → List Toke
   pub record Meets (t : Token) (a : Alternative C) (ts : List Token) : Type 0 where
     pub each : length ts ≡ length (a .names)
     pub serve : (i : ℕ) → i < length (a .names) → Serves lines (getD (a .names) i noName) (getD ts i nobody)
-    pub hold : (q : C) → Among q (a .asks) → holds (choiceOf t ts) q ≡ true
+    pub hold : (q : C) → Among q (a .asks) → holds (choiceOf (planEnd lines) t ts) q ≡ true
 
   -- the "trigger token has an alternative and a token for each of its names .. so that all atoms hold"
   pub record Met (r : Rule C) (t : Token) : Type 0 where

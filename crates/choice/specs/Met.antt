@@ -10,31 +10,47 @@ use Rattle.clock.specs.Clock.{noLimit, inBounds}
 use Rattle.book.specs.Rules.{Name, Atom, Constraint, Alternative, Rule}
 use Rattle.lines.specs.declared.Token.{Token}
 use Rattle.lines.specs.Lines.{token}
+use Rattle.lines.specs.Ends.{planEnd}
 use Rattle.allen.specs.Relation.{relationOf}
 
 -- what stands for a token that isn't there: the trigger of a rule without one, and the names that no token was chosen for yet
 abbrev pub nobody : Token
 nobody = token 0 0 1
 
--- a choice is ten times: start and end of the trigger, and of the token of each of at most four names, in their order
+-- a choice is eleven times: the end of the plan, then start and end of the trigger, and of the token of each of at most four names, in
+-- their order
 abbrev pub Choice : Type 0
 Choice = List ℕ
 
--- the choice of the trigger alone
-abbrev pub triggered : Token → Choice
-triggered t = t .start .tick ∷ t .end .tick ∷ 0 ∷ 1 ∷ 0 ∷ 1 ∷ 0 ∷ 1 ∷ 0 ∷ 1 ∷ []
+abbrev pub choiceSize : ℕ
+choiceSize = 11
+
+-- which place of it has the end of the plan, and which the start (kind 0) or the end (kind 1) of name number k
+abbrev pub endPlace : ℕ
+endPlace = 0
+
+abbrev pub timePlace : ℕ → ℕ → ℕ
+timePlace kind k = 1 + 2 * k + kind
+
+-- the choice of the trigger alone, in a plan that ends at `end`
+abbrev pub triggered : ℕ → Token → Choice
+triggered end t = end ∷ t .start .tick ∷ t .end .tick ∷ 0 ∷ 1 ∷ 0 ∷ 1 ∷ 0 ∷ 1 ∷ 0 ∷ 1 ∷ []
 
 -- the choice with start and end of a token for name number k
 unfoldable pub put : Choice → ℕ → ℕ → ℕ → Choice
-put c k start end = set (set c (2 * k) start) (2 * k + 1) end
+put c k start end = set (set c (timePlace 0 k) start) (timePlace 1 k) end
 
 -- "0 start of, 1 end of" the token that an argument names: "0 for the trigger or 1..n for the alternative's names"
 unfoldable pub tokenTime : Choice → ℕ → ℕ → ℕ
-tokenTime c kind k = getD c (2 * k + kind) kind
+tokenTime c kind k = getD c (timePlace kind k) kind
 
--- the time of a term: a token's, or "2 time point"
+-- "kind 3, end of the plan": "the common end that L4 demands"
+unfoldable pub endTime : Choice → ℕ
+endTime c = getD c endPlace 0
+
+-- the time of a term: a token's, "2 time point", or the end of the plan
 unfoldable pub timeOf : Choice → ℕ → ℕ → ℕ
-timeOf c kind k = cond (eqb kind 2) k (tokenTime c kind k)
+timeOf c kind k = cond (eqb kind 2) k (cond (eqb kind 3) (endTime c) (tokenTime c kind k))
 
 -- "An atom holds when right minus left, as whole numbers, is at least lower and (unless N) at most upper"
 unfoldable pub atomHolds : Choice → Atom → Bool
@@ -59,4 +75,4 @@ module _ {C : Type 0} (holds : Choice → C → Bool) (lines : ℕ → List Toke
 
   -- the "trigger token has an alternative"
   unfoldable pub met : Rule C → Token → Bool
-  met r t = any (alternativeMet (triggered t)) (r .alternatives)
+  met r t = any (alternativeMet (triggered (planEnd lines) t)) (r .alternatives)

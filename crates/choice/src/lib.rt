@@ -1,5 +1,5 @@
-// A choice: start and end of the trigger token and of the tokens chosen for an alternative's names; the times of terms in it, and whether
-// what the alternative asks holds.
+// A choice: the plan's end, and start and end of the trigger token and of the tokens chosen for an alternative's names; the times of terms
+// in it, and whether what the alternative asks holds.
 ghost use mathlib.Core.Path.{_≡_};
 ghost use mathlib.Core.Bool.{_&&_, _||_, not};
 ghost use Prim.Native.Nat.{_+_, _*_, _<_, _≤_, _^_};
@@ -7,7 +7,7 @@ ghost use lib.ListN.{getD, set};
 ghost use Rattle.clock.specs.Clock.{at};
 ghost use Rattle.layout.specs.Layout.{fifthWidth};
 ghost use Rattle.book.specs.Rules.{atomAt, constraintAt};
-ghost use Rattle.choice.specs.Met.{nobody, triggered, put, tokenTime, timeOf, atomHolds, constraintHolds};
+ghost use Rattle.choice.specs.Met.{nobody, timePlace, triggered, put, tokenTime, timeOf, atomHolds, constraintHolds};
 ghost use Rattle.choice.specs.Asked.{askHolds, termPlaced, askPlaced, askPasses, holdSoFar, tokensOf, alternativeOf};
 use clock::Time;
 use lines::Token;
@@ -25,13 +25,24 @@ pub fn nobody() -> Token
     }
 }
 
-// The choice of the trigger alone.
-pub fn triggered(t: Token) -> [u64; 10]
-    ensures { λ r. ⌜ r ≡ triggered t ⌝ }
+// The choice of the trigger alone, in a plan that ends at `last`.
+pub fn triggered(last: u64, t: Token) -> [u64; 11]
+    ensures { λ r. ⌜ r ≡ triggered last t ⌝ }
 {
     let start = t.start;
     let end = t.end;
-    [start.tick, end.tick, 0, 1, 0, 1, 0, 1, 0, 1]
+    [last, start.tick, end.tick, 0, 1, 0, 1, 0, 1, 0, 1]
+}
+
+// Where a choice has the end of the plan.
+const END_PLACE: usize = 0;
+
+// Where it has the start (kind 0) or the end (kind 1) of name number k.
+fn time_place(kind: usize, k: usize) -> usize
+    requires { ⌜ (kind < 2 ^ 32) × (k < 2 ^ 60) ⌝ }
+    ensures { λ r. ⌜ r ≡ timePlace kind k ⌝ }
+{
+    1 + 2 * k + kind
 }
 
 // Stores a time at a place, if there is that place.
@@ -51,33 +62,37 @@ pub fn time_at(c: &[u64], i: usize, none: u64) -> u64
 }
 
 // Puts start and end of a token for name number k into the choice, which has no place for a name past the fourth.
-pub fn put(c: &mut [u64; 10], k: usize, start: u64, end: u64)
+pub fn put(c: &mut [u64; 11], k: usize, start: u64, end: u64)
     requires { ⌜ k < 2 ^ 60 ⌝ }
     ensures { λ _. ⌜ now (c .exit) ≡ put (now (c .entry)) k start end ⌝ }
 {
-    set_time(c, 2 * k, start);
-    set_time(c, 2 * k + 1, end);
+    set_time(c, time_place(0, k), start);
+    set_time(c, time_place(1, k), end);
 }
 
 // Start (kind 0) or end (kind 1) of the token that an argument names.
-pub fn token_time(c: &[u64; 10], kind: u32, k: u32) -> u64
+pub fn token_time(c: &[u64; 11], kind: u32, k: u32) -> u64
     ensures { λ r. ⌜ r ≡ tokenTime (now (c .entry)) kind k ⌝ }
 {
-    time_at(c, 2 * k as usize + kind as usize, kind as u64)
+    time_at(c, time_place(kind as usize, k as usize), kind as u64)
 }
 
-// The time of a term: 0 start of, 1 end of, 2 time point.
-pub fn term(c: &[u64; 10], kind: u32, k: u32) -> Time
+// The time of a term: 0 start of, 1 end of, 2 time point, 3 end of the plan.
+pub fn term(c: &[u64; 11], kind: u32, k: u32) -> Time
     ensures { λ r. ⌜ r ≡ at (timeOf (now (c .entry)) kind k) ⌝ }
 {
     if kind == 2 {
         return Time { tick: k as u64 };
     }
+    if kind == 3 {
+        let last = time_at(c, END_PLACE, 0);
+        return Time { tick: last };
+    }
     let tick = token_time(c, kind, k);
     Time { tick }
 }
 
-fn atom_holds(b: &[u32], c: &[u64; 10], place: usize) -> bool
+fn atom_holds(b: &[u32], c: &[u64; 11], place: usize) -> bool
     requires { ⌜ place < 2 ^ 60 ⌝ }
     ensures { λ r. ⌜ r ≡ atomHolds (now (c .entry)) (atomAt (now (b .entry)) place) ⌝ }
 {
@@ -86,7 +101,7 @@ fn atom_holds(b: &[u32], c: &[u64; 10], place: usize) -> bool
     left.in_bounds(right, word_at(b, place + 4), word_at(b, place + 5))
 }
 
-pub fn constraint_holds(b: &[u32], c: &[u64; 10], place: usize) -> bool
+pub fn constraint_holds(b: &[u32], c: &[u64; 11], place: usize) -> bool
     requires { ⌜ place < 2 ^ 60 ⌝ }
     ensures { λ r. ⌜ r ≡ constraintHolds (now (c .entry)) (constraintAt (now (b .entry)) place) ⌝ }
 {
@@ -102,7 +117,7 @@ pub fn constraint_holds(b: &[u32], c: &[u64; 10], place: usize) -> bool
 }
 
 // The leaf in which the judge of a book and the direct judge of a sheet differ.
-fn ask_holds(e: usize, b: &[u32], c: &[u64; 10], place: usize) -> bool
+fn ask_holds(e: usize, b: &[u32], c: &[u64; 11], place: usize) -> bool
     requires { ⌜ place < 2 ^ 60 ⌝ }
     ensures { λ r. ⌜ r ≡ askHolds e (now (b .entry)) (now (c .entry)) place ⌝ }
 {
@@ -175,7 +190,7 @@ pub fn tokens_of(b: &[u32], p: &[u32], name: usize) -> Tokens
 fn term_placed(kind: u32, x: u32, j: usize) -> bool
     ensures { λ r. ⌜ r ≡ termPlaced kind x j ⌝ }
 {
-    (kind == 2) | ((kind < 2) & (x as usize <= j))
+    ((kind == 2) | (kind == 3)) | ((kind < 2) & (x as usize <= j))
 }
 
 // Whether the ask at a place can be tested once j names have their tokens.
@@ -191,7 +206,7 @@ fn ask_placed(e: usize, b: &[u32], place: usize, j: usize) -> bool
 }
 
 // Whether the ask at a place holds, or can't be tested yet; with all names placed each is tested.
-fn ask_passes(b: &[u32], a: Alternative, c: &[u64; 10], j: usize, place: usize) -> bool
+fn ask_passes(b: &[u32], a: Alternative, c: &[u64; 11], j: usize, place: usize) -> bool
     requires { ⌜ place < 2 ^ 60 ⌝ }
     ensures { λ r. ⌜ r ≡ askPasses (now (b .entry)) a (now (c .entry)) j place ⌝ }
 {
@@ -206,7 +221,7 @@ fn ask_passes(b: &[u32], a: Alternative, c: &[u64; 10], j: usize, place: usize) 
 }
 
 // Whether all that an alternative asks and that can be tested with j names placed holds.
-pub fn hold_so_far(b: &[u32], a: Alternative, c: &[u64; 10], j: usize) -> bool
+pub fn hold_so_far(b: &[u32], a: Alternative, c: &[u64; 11], j: usize) -> bool
     requires { ⌜ a .ask + 8 * a .asks < 2 ^ 60 ⌝ }
     ensures { λ r. ⌜ r ≡ holdSoFar (now (b .entry)) a (now (c .entry)) j (a .asks) (a .ask) ⌝ }
 {

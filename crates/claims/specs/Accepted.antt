@@ -28,7 +28,7 @@ use Rattle.plan.specs.Fault.{planFault}
 use Rattle.plan.proofs.Good.{plan-good, plan-good-back, no-number}
 use Rattle.choice.specs.Met.{Choice, nobody, atomHolds, constraintHolds}
 use Rattle.verdict.specs.Judged.{untriggered, counted, triggerLine, isTrigger, examined, ruleUnmet, rulesFault, judged, judgedSheet}
-use Rattle.claims.specs.Papers.{Plan, Satisfied, Satisfies}
+use Rattle.claims.specs.Papers.{Plan, SatisfiedIn, Satisfies}
 use Rattle.claims.specs.Sheets.{SheetSatisfies}
 use Rattle.claims.specs.Laws.{all-to, all-apply, none-first}
 use Rattle.claims.specs.Wrongs.{Tables}
@@ -48,7 +48,7 @@ pub record Solution {C : Type 0} (e : ℕ) (b p : List ℕ) (rules : List (Rule 
 
 -- by a book
 abbrev pub Accepted : List ℕ → List ℕ → Type 0
-Accepted b p = Solution 1 b p (rulesOf atoms b) (Satisfies Satisfied (lineOf p))
+Accepted b p = Solution 1 b p (rulesOf atoms b) (Satisfies (SatisfiedIn (lineOf p)) (lineOf p))
 
 -- by a sheet, "with constraints in place of atoms"
 abbrev pub SheetAccepted : List ℕ → List ℕ → Type 0

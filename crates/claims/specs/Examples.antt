@@ -17,10 +17,10 @@ use Rattle.book.proofs.Specimen.{bookE, sheetE, same}
 use Rattle.lines.specs.Lines.{lineOf}
 use Rattle.verdict.specs.Judged.{judged, judgedSheet}
 use Rattle.translator.specs.Translation.{translation}
-use Rattle.claims.specs.Specimens.{planP1, planP2, emptyPlan, freeBook, freeNamed, Specimen, stretches, stands, specimens, all-stand}
+use Rattle.claims.specs.Specimens.{planP1, planP2, emptyPlan, freeBook, freeNamed, truckBook, Specimen, stretches, stands, specimens, all-stand}
 use Rattle.claims.specs.Matched.{and-so, all-at}
 use Rattle.claims.specs.Answers.{Listed, bookLength, bookHeader, bookEnd, bookRecord, planLength, planHeader, planEnd, unknown, outside, breaks, late, apart, unmet, accepted}
-use Rattle.claims.specs.Papers.{Satisfied, Met, Satisfies}
+use Rattle.claims.specs.Papers.{SatisfiedIn, Met, Satisfies}
 use Rattle.claims.specs.Sheets.{Holds, SheetSatisfies}
 use Rattle.claims.specs.RulesMet.{Fails}
 use Rattle.claims.specs.Accepted.{Accepted, SheetAccepted, Examined, accepted-count, sheet-accepted-count}
@@ -97,6 +97,10 @@ word-example = same-is _ _ (row 32 (omega arith))
 pub word-sheet-example : judgedSheet (set sheetE 42 8192) planP2 ≡ numbersAt 4 5 0 2
 word-sheet-example = same-is _ _ (row 33 (omega arith))
 
+-- 02, L8: a rule that asks for 20 before the end of the plan isn't met by P2's second job, which ends with the plan; with 0 it is
+pub end-examples : (judged truckBook planP2 ≡ numbers 12 0 3) × (judged (set truckBook 56 0) planP2 ≡ numbers 0 2 0)
+end-examples = (same-is _ _ (row 38 (omega arith)), same-is _ _ (row 39 (omega arith)))
+
 -- the direct judge's rows 12 and 0, and the translator's 0 and 15
 pub sheet-examples :
     (judgedSheet sheetE planP1 ≡ numbers 12 0 3)
@@ -115,7 +119,9 @@ pub P2-accepted : Accepted bookE planP2 × Examined (lineOf planP2) (rulesOf ato
 P2-accepted = accepted-count bookE planP2 2 .0 (examples .14)
 
 -- and P1 isn't: its rule 0 fails first at token 3 of the RIP's line
-pub P1-refused : FirstRule (rulesOf atoms bookE) (Satisfies Satisfied (lineOf planP1)) (λ r. Fails (lineOf planP1) r (Met Satisfied (lineOf planP1) r)) 0 3
+pub P1-refused :
+    FirstRule (rulesOf atoms bookE) (Satisfies (SatisfiedIn (lineOf planP1)) (lineOf planP1))
+    (λ r. Fails (lineOf planP1) r (Met (SatisfiedIn (lineOf planP1)) (lineOf planP1) r)) 0 3
 P1-refused = fault-12 bookE planP1 0 3 .0 (examples .12) .3
 
 -- the same of E's rule as a sheet

@@ -3,9 +3,10 @@
 use mathlib.Core.Path.{_≡_, refl, sym, ap, _∙_}
 use mathlib.Core.Bool.{Bool, true, false, _&&_, _||_, not, cond}
 use mathlib.Core.List.{List, [], _∷_, map, flatMap}
-use Prim.Native.Nat.{ℕ, zero, suc, _+_, _*_, _<_}
+use Prim.Native.Nat.{ℕ, zero, suc, _+_, _*_, _≤_, _<_}
 use native.Mathlib.Nat.{add-zero}
 use native.Mathlib.Numerals.{add-one}
+use native.Mathlib.Decide.{decLe, ℕ-discrete}
 use native.Mathlib.Omega.{arith}
 use lib.ListN.{length, getD, length-map, List·getD-map}
 use lib.Dec.{ltb, leb, eqb, lit<}
@@ -16,10 +17,14 @@ use Rattle.words.specs.Lists.{any, all, any-same, all-append, any-map, any-flat
 use Rattle.clock.specs.Clock.{noLimit, inBounds}
 use Rattle.book.specs.Rules.{Name, Constraint, Alternative, Rule}
 use Rattle.lines.specs.declared.Token.{Token}
+use Rattle.lines.specs.Ends.{planEnd}
 use Rattle.allen.specs.Relation.{conditions, relationOf, thirteen}
 use Rattle.allen.specs.One.{one-relation, relation-below}
 use Rattle.allen.specs.Atoms.{relations, atomsOf}
-use Rattle.choice.specs.Met.{Choice, nobody, triggered, put, tokenTime, timeOf, atomHolds, constraintHolds, place, alternativeMet, met}
+use Rattle.choice.specs.Met.{Choice, choiceSize, nobody, triggered, put, tokenTime, timeOf, atomHolds, constraintHolds, place, alternativeMet, met}
+use Rattle.choice.specs.Exists.{chosen, choiceOf}
+use Rattle.choice.proofs.Exists.{choice-time}
+use Rattle.choice.proofs.Laws.{put-first, put-second, put-else, put-out, put-long}
 use Rattle.listing.specs.Expand.{keep, relationsIn, choices, atomsFor, expand, translate}
 use Rattle.verdict.specs.Judged.{noRule, untriggered, triggerLine, isTrigger, examined, unmet, firstUnmet, ruleUnmet, rulesFault}
 use Rattle.claims.specs.Laws.{first-map, first-on}
@@ -28,11 +33,10 @@ use Rattle.claims.specs.Laws.{first-map, first-on}
 abbrev pub Proper : Token → Type 0
 Proper t = t .start .tick < t .end .tick
 
--- and so has every token of a choice: each start is before the end that follows it
-abbrev pub ProperChoice : Choice → Type 0
-ProperChoice [] = Unit
-ProperChoice (s ∷ []) = ⊥
-ProperChoice (s ∷ (e ∷ c)) = (s < e) × ProperChoice c
+-- and so has every token of a choice, nobody's included
+pub record ProperChoice (c : Choice) : Type 0 where
+  pub size : length c ≡ choiceSize
+  pub forward : (k : ℕ) → tokenTime c 0 k < tokenTime c 1 k
 
 -- the variables of a name and of a rule's trigger are among the first m
 abbrev pub NameBelow : ℕ → Name → Type 0
@@ -42,26 +46,30 @@ pub record RuleBelow {C : Type 0} (m : ℕ) (r : Rule C) : Type 0 where
   pub trigger : untriggered r ≡ false → r .variable < m
   pub names : All (λ (a : Alternative C). All (NameBelow m) (a .names)) (r .alternatives)
 
--- the times of any argument then are a token's that has a length; past the end they are 0 and 1
-proper-times : (c : Choice) → ProperChoice c → (k : ℕ) → tokenTime c 0 k < tokenTime c 1 k
-unfolding tokenTime
-proper-times [] h k = lit< tt
-proper-times (s ∷ []) h k = absurd h
-proper-times (s ∷ (e ∷ c)) h zero = h .0
-proper-times (s ∷ (e ∷ c)) h (suc k) =
-    let two : (i : ℕ) → 2 * suc k + i ≡ suc (suc (2 * k + i)) = λ i. omega arith in
-    rw (two 0, two 1) (proper-times c (h .1) k)
+-- the trigger alone
+trigger-choice : (last : ℕ) (t : Token) → Proper t → ProperChoice (triggered last t)
+unfolding choiceOf chosen
+trigger-choice last t h =
+    record { size = refl; forward = λ k. let c = choice-time last t [] k (omega arith) in rw (c .0, c .1) (each k) }
+  where
+    each : (k : ℕ) → Proper (getD (t ∷ []) k nobody)
+    each zero = h
+    each (suc k) = lit< tt
 
--- a token with a length, put into the choice
+-- a token with a length, put into the choice, which has places for four names
 put-proper : (c : Choice) (k start end : ℕ) → ProperChoice c → start < end → ProperChoice (put c k start end)
-unfolding put
-put-proper [] k start end h l = tt
-put-proper (s ∷ []) k start end h l = absurd h
-put-proper (s ∷ (e ∷ c)) zero start end h l = (l, h .1)
-put-proper (s ∷ (e ∷ c)) (suc k) start end h l =
-    let one : 2 * suc k ≡ suc (suc (2 * k)) = omega arith in
-    let two : 2 * suc k + 1 ≡ suc (suc (2 * k + 1)) = omega arith in
-    rw (two, one) (h .0, put-proper c k start end (h .1) l)
+put-proper c k start end h l =
+    elim (decLe k 4) [
+      | yes m ↦ record { size = put-long c k start end ∙ h .size; forward = there m }
+      | no n ↦ rw (put-out c k start end (omega (arith, h .size))) h
+    ]
+  where
+    there : k ≤ 4 → (x : ℕ) → tokenTime (put c k start end) 0 x < tokenTime (put c k start end) 1 x
+    there m x =
+        elim (ℕ-discrete x k) [
+          | yes e ↦ rw (e, put-first c k start end (omega (arith, h .size)), put-second c k start end (omega (arith, h .size))) l
+          | no n ↦ rw (put-else c k start end 0 x (omega arith) n, put-else c k start end 1 x (omega arith) n) (h .forward x)
+        ]
 
 -- ---- one constraint
 
@@ -84,7 +92,7 @@ pub atoms-hold : (c : Choice) → ProperChoice c → (l r : ℕ)
     ≡ map (λ (k : ℕ). eqb k (relationOf (tokenTime c 0 l) (tokenTime c 1 l) (tokenTime c 0 r) (tokenTime c 1 r))) thirteen
 unfolding all atomHolds timeOf
 atoms-hold c h l r =
-    simp (less, equal, and-true) (one-relation (tokenTime c 0 l) (tokenTime c 1 l) (tokenTime c 0 r) (tokenTime c 1 r) (proper-times c h l) (proper-times c h r))
+    simp (less, equal, and-true) (one-relation (tokenTime c 0 l) (tokenTime c 1 l) (tokenTime c 0 r) (tokenTime c 1 r) (h .forward l) (h .forward r))
 
 any-keep : (p q : ℕ → Bool) (ks : List ℕ) → any q (keep p ks) ≡ any (λ k. p k && q k) ks
 unfolding any keep
@@ -135,7 +143,7 @@ constraint-is c q h =
     any-keep (inSet (q .set)) (λ k. all (atomHolds c) (atomsOf k l r)) thirteen
     ∙ ap (weigh (inSet (q .set)) 0) (atoms-hold c h l r)
     ∙ any-one (inSet (q .set)) rel thirteen
-    ∙ rw (one-of-thirteen _ _ _ _ (proper-times c h l) (proper-times c h r))
+    ∙ rw (one-of-thirteen _ _ _ _ (h .forward l) (h .forward r))
 
 -- ---- all constraints of an alternative, for one choice of tokens
 
@@ -206,9 +214,9 @@ module _ (lines : ℕ → List Token) where
     pub translate-met : (r : Rule Constraint) → RuleBelow m r → (t : Token) → Proper t → met atomHolds lines (translate r) t ≡ met constraintHolds lines r t
     unfolding translate met
     translate-met r b t h =
-        any-flat (alternativeMet atomHolds lines (triggered t)) expand (r .alternatives)
+        any-flat (alternativeMet atomHolds lines (triggered (planEnd lines) t)) expand (r .alternatives)
         ∙ any-on (λ (a : Alternative Constraint). All (NameBelow m) (a .names)) _ _
-        (λ a l. expand-met (triggered t) (h, (lit< tt, (lit< tt, (lit< tt, (lit< tt, tt))))) a l)
+        (λ a l. expand-met (triggered (planEnd lines) t) (trigger-choice (planEnd lines) t h) a l)
         (r .alternatives)
         (b .names)
 

@@ -22,7 +22,7 @@ use Rattle.lines.specs.Lines.{lineOf}
 use Rattle.plan.specs.Fault.{planFault}
 use Rattle.choice.specs.Met.{Choice, atomHolds, constraintHolds}
 use Rattle.verdict.specs.Judged.{noRule, firstUnmet, ruleUnmet, examined, rulesFault, judged, judgedSheet}
-use Rattle.claims.specs.Papers.{Plan, Satisfied, Met, Satisfies}
+use Rattle.claims.specs.Papers.{Plan, SatisfiedIn, Met, Satisfies}
 use Rattle.claims.specs.Sheets.{Holds, SheetSatisfies}
 use Rattle.claims.specs.Stages.{stagesOf, lastStage, at-last, owned, judge-disjoint, rules-own, in-order}
 use Rattle.claims.specs.Wrongs.{First, Tables}
@@ -115,7 +115,7 @@ module _ {C : Type 0} (holds : Choice → C → Bool) (S : Rule C → Type 0) (F
 pub fault-12 : (b p : List ℕ) (a c : ℕ)
     → (judged b p ≡ numbers 12 a c)
     ↔ (Sound 1 b × Tables b p × Plan (variablesOf b) (lineOf p)
-    × FirstRule (rulesOf atoms b) (Satisfies Satisfied (lineOf p)) (λ r. Fails (lineOf p) r (Met Satisfied (lineOf p) r)) a c)
+    × FirstRule (rulesOf atoms b) (Satisfies (SatisfiedIn (lineOf p)) (lineOf p)) (λ r. Fails (lineOf p) r (Met (SatisfiedIn (lineOf p)) (lineOf p) r)) a c)
 unfolding judged
 fault-12 b p = fault-rule atomHolds _ _ (rulesOf atoms b) 1 b p (book-settles (lineOf p))
 

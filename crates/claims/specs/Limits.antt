@@ -25,7 +25,7 @@ use Rattle.lines.specs.Ends.{endFrom, endsApart, endsFault}
 use Rattle.plan.specs.Fault as plan
 use Rattle.allen.specs.Relation.{relationOf}
 use Rattle.allen.specs.Atoms.{atomsOf}
-use Rattle.choice.specs.Met.{put, tokenTime, timeOf, atomHolds, constraintHolds, place, alternativeMet, met}
+use Rattle.choice.specs.Met.{put, tokenTime, endTime, timeOf, atomHolds, constraintHolds, place, alternativeMet, met}
 use Rattle.verdict.specs.Judged.{counted, triggerLine, isTrigger, examined, unmet, firstUnmet, ruleUnmet, rulesFault, judged}
 use Rattle.listing.specs.Expand.{keep, relationsIn, choices, atomsFor, expand, translate}
 use Rattle.translator.specs.Translation.{rulesFor, translated, tooMany, ruleFault, sizeFault, roomFault, translation}
@@ -120,12 +120,16 @@ records =
     ∷ (book.bookFault 2 (fifthBook 2 0 []), noFault)
     ∷ (book.bookFault 2 (fifthBook 2 8 (0 ∷ 1 ∷ 1 ∷ [])), noFault)
     ∷ (book.bookFault 2 (fifthBook 2 9 (0 ∷ 1 ∷ 1 ∷ [])), numbersAt 4 3 0 3)
-    -- "A term's kind is 0 start of, 1 end of, 2 time point", on both sides
+    -- "A term's kind is 0 start of, 1 end of, 2 time point", and "3, end of the plan", on both sides
     ∷ (book.bookFault 1 (atomBook 0 1 0 0 0 N), noFault)
     ∷ (book.bookFault 1 (atomBook 1 1 1 0 0 N), noFault)
     ∷ (book.bookFault 1 (atomBook 2 0 2 0 0 N), noFault)
-    ∷ (book.bookFault 1 (atomBook 3 0 2 0 0 N), numbersAt 4 5 0 0)
-    ∷ (book.bookFault 1 (atomBook 2 0 3 0 0 N), numbersAt 4 5 0 2)
+    ∷ (book.bookFault 1 (atomBook 3 0 3 0 0 N), noFault)
+    ∷ (book.bookFault 1 (atomBook 4 0 2 0 0 N), numbersAt 4 5 0 0)
+    ∷ (book.bookFault 1 (atomBook 2 0 4 0 0 N), numbersAt 4 5 0 2)
+    -- "end of the plan, argument 0"; "another argument gets 4"
+    ∷ (book.bookFault 1 (atomBook 3 1 2 0 0 N), numbersAt 4 5 0 1)
+    ∷ (book.bookFault 1 (atomBook 2 0 3 1 0 N), numbersAt 4 5 0 3)
     -- "0 for the trigger or 1..n for the alternative's names; 0 is bad without a trigger"
     ∷ (book.bookFault 1 (atomBook 0 2 2 0 0 N), numbersAt 4 5 0 1)
     ∷ (book.bookFault 1 (atomBook 2 0 1 2 0 N), numbersAt 4 5 0 3)
@@ -217,5 +221,5 @@ translations =
 
 -- THE CLAIM: every row is as stated
 pub limits-stand : all (λ (row : Numbers × Numbers). same (row .0) (row .1)) (headers ++ records ++ plans ++ translations) ≡ true
-unfolding all any flatMap orElse least first run rows inSet inBounds fifthWidth fifthMost begins headerWrong starts owner setWrong valueTests fifthTestsOf fifthTests wrongWord recordWrong leaves tableWrong toldWord book.lengthFault book.headerFault book.endFault book.recordFault book.bookFault nameAt atomAt constraintAt alternativeAt ruleAt rulesOf bookOf tokensFrom lineOf plan.lengthFault plan.sumBefore plan.headWrong plan.headFault plan.endFault plan.startOf plan.durationOutside plan.notSuccessor plan.tokenFault plan.tokenWrong plan.firstToken plan.lineWrong plan.tokensFault plan.planFault endFrom endsApart endsFault relationOf atomsOf put tokenTime timeOf atomHolds constraintHolds place alternativeMet met counted triggerLine isTrigger examined unmet firstUnmet ruleUnmet rulesFault judged keep relationsIn choices atomsFor expand translate rulesFor translated tooMany ruleFault sizeFault roomFault translation lineFault openFault
+unfolding all any flatMap orElse least first run rows inSet inBounds fifthWidth fifthMost begins headerWrong starts owner setWrong valueTests fifthTestsOf fifthTests wrongWord recordWrong leaves tableWrong toldWord book.lengthFault book.headerFault book.endFault book.recordFault book.bookFault nameAt atomAt constraintAt alternativeAt ruleAt rulesOf bookOf tokensFrom lineOf plan.lengthFault plan.sumBefore plan.headWrong plan.headFault plan.endFault plan.startOf plan.durationOutside plan.notSuccessor plan.tokenFault plan.tokenWrong plan.firstToken plan.lineWrong plan.tokensFault plan.planFault endFrom endsApart endsFault relationOf atomsOf put tokenTime endTime timeOf atomHolds constraintHolds place alternativeMet met counted triggerLine isTrigger examined unmet firstUnmet ruleUnmet rulesFault judged keep relationsIn choices atomsFor expand translate rulesFor translated tooMany ruleFault sizeFault roomFault translation lineFault openFault
 limits-stand = refl

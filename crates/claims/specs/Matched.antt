@@ -1,6 +1,6 @@
 -- The search finds a trigger token met just where the papers' definitions say that it is: some statement of the rule, with some token
 -- mapping, is satisfied. Whatever alternatives ask; for a book's atoms it asks for what is so of the rules of a sound book: at most four
--- names, and terms of the kinds 0, 1, 2. Assumes nothing.
+-- names, and terms of the kinds 0 to 3. Assumes nothing.
 use mathlib.Core.Path.{_≡_, refl, sym, _∙_, subst}
 use mathlib.Core.Bool.{Bool, true, false, _&&_, _||_, not, false≢true}
 use mathlib.Core.Logic.{_↔_, inl, inr, ⊎-elim}
@@ -16,11 +16,13 @@ use Rattle.words.specs.Lists.{All}
 use Rattle.clock.specs.Clock.{noLimit}
 use Rattle.clock.proofs.Laws.{whole}
 use Rattle.book.specs.Rules.{Atom, Alternative, Rule}
+use Rattle.book.specs.Sound.{TermSound}
 use Rattle.lines.specs.declared.Token.{Token}
+use Rattle.lines.specs.Ends.{planEnd}
 use Rattle.choice.specs.Met.{Choice, nobody, timeOf, atomHolds, met}
 use Rattle.choice.specs.Exists as exists
-use Rattle.choice.proofs.Exists.{met-iff as exists-met, choice-time}
-use Rattle.claims.specs.Papers.{tokenOf, Evaluates, start, end, timestamp, Satisfied, On, noName, noStatement, Maps, Met}
+use Rattle.choice.proofs.Exists.{met-iff as exists-met, choice-time, choice-end}
+use Rattle.claims.specs.Papers.{tokenOf, Evaluates, start, end, timestamp, endOfPlan, Satisfied, SatisfiedIn, On, noName, noStatement, Maps, Met}
 use Rattle.claims.specs.Laws.{all-to}
 use Rattle.claims.specs.Decoded.{AlternativeFine, RuleFine}
 use Rattle.claims.specs.TranslatedRules.{AtomFine}
@@ -49,31 +51,37 @@ at-any (x ∷ xs) (suc i) c d l = at-any xs i c d (omega arith)
 
 -- ---- terms and atoms
 
-module _ (trigger : Token) (tokens : List Token) (few : length tokens ≤ 4) where
+module _ (last : ℕ) (trigger : Token) (tokens : List Token) (few : length tokens ≤ 4) where
   -- the token mapping: the trigger's, then the names'
   abbrev mapping : List Token
   mapping = trigger ∷ tokens
 
-  -- the time of a term of kind 0, 1 or 2 is its evaluation
-  evaluates : (kind k : ℕ) → kind ≤ 2 → Evaluates mapping kind k (timeOf (exists.choiceOf trigger tokens) kind k)
+  -- and the choice that the search has
+  abbrev choice : Choice
+  choice = exists.choiceOf last trigger tokens
+
+  -- the time of a term that may stand in a book is its evaluation
+  evaluates : {n : ℕ} {some : Bool} (kind k : ℕ) → TermSound n some kind k → Evaluates last mapping kind k (timeOf choice kind k)
   unfolding timeOf
-  evaluates zero k l = rw (choice-time trigger tokens k few .0) (start k)
-  evaluates (suc zero) k l = rw (choice-time trigger tokens k few .1) (end k)
+  evaluates zero k l = rw (choice-time last trigger tokens k few .0) (start k)
+  evaluates (suc zero) k l = rw (choice-time last trigger tokens k few .1) (end k)
   evaluates (suc (suc zero)) k l = timestamp k
-  evaluates (suc (suc (suc n))) k l = absurd (omega arith)
+  evaluates (suc (suc (suc zero))) k l = rw (choice-end last trigger tokens few, l .last refl) endOfPlan
+  evaluates (suc (suc (suc (suc n)))) k l = absurd (omega (arith, l .kinds))
 
   -- and there is no other
-  evaluation : (kind k x : ℕ) → Evaluates mapping kind k x → x ≡ timeOf (exists.choiceOf trigger tokens) kind k
+  evaluation : (kind k x : ℕ) → Evaluates last mapping kind k x → x ≡ timeOf choice kind k
   unfolding timeOf
-  evaluation _ _ _ (start k) = sym (choice-time trigger tokens k few .0)
-  evaluation _ _ _ (end k) = sym (choice-time trigger tokens k few .1)
+  evaluation _ _ _ (start k) = sym (choice-time last trigger tokens k few .0)
+  evaluation _ _ _ (end k) = sym (choice-time last trigger tokens k few .1)
   evaluation _ _ _ (timestamp k) = refl
+  evaluation _ _ _ endOfPlan = sym (choice-end last trigger tokens few)
 
   -- an atom holds just where it is satisfied
-  atom-iff : (q : Atom) → q .leftKind ≤ 2 → q .rightKind ≤ 2 → (atomHolds (exists.choiceOf trigger tokens) q ≡ true) ↔ Satisfied mapping q
+  atom-iff : {n : ℕ} {some : Bool} (q : Atom) → AtomFine n some q → (atomHolds choice q ≡ true) ↔ Satisfied last mapping q
   unfolding atomHolds
-  atom-iff q hl hr =
-      let c = exists.choiceOf trigger tokens in
+  atom-iff q fine =
+      let c = choice in
       let l : ℕ = timeOf c (q .leftKind) (q .left) in
       let r : ℕ = timeOf c (q .rightKind) (q .right) in
       let w = whole noLimit l r (q .lower) (q .upper) in
@@ -84,8 +92,8 @@ module _ (trigger : Token) (tokens : List Token) (few : length tokens ≤ 4) whe
             record {
               left = l;
               right = r;
-              isLeft = evaluates (q .leftKind) (q .left) hl;
-              isRight = evaluates (q .rightKind) (q .right) hr;
+              isLeft = evaluates (q .leftKind) (q .left) (fine .left);
+              isRight = evaluates (q .rightKind) (q .right) (fine .right);
               lower = s .0;
               upper = ⊎-elim (λ e. inl (eqb-true _ _ e)) (λ e. inr e) (o .0 (s .1));
             },
@@ -137,7 +145,7 @@ module _ {C : Type 0} (holds : Choice → C → Bool) (Holds : List Token → C 
   abbrev pub Tells : Alternative C → Type 0
   Tells a =
       (tokens : List Token) → length tokens ≡ length (a .names) → Named lines a tokens
-      → All (λ (q : C). (holds (exists.choiceOf trigger tokens) q ≡ true) ↔ Holds (trigger ∷ tokens) q) (a .asks)
+      → All (λ (q : C). (holds (exists.choiceOf (planEnd lines) trigger tokens) q ≡ true) ↔ Holds (trigger ∷ tokens) q) (a .asks)
 
   -- tokens meet an alternative just where the statement is satisfied with them
   statement-iff : (a : Alternative C) (tokens : List Token) → Tells a → exists.Meets holds lines trigger a tokens ↔ Maps Holds lines trigger a tokens
@@ -189,10 +197,10 @@ module _ {C : Type 0} (holds : Choice → C → Bool) (Holds : List Token → C 
 
 -- of a book: its rules ask atoms
 pub met-iff : (lines : ℕ → List Token) (b : List ℕ) (r : Rule Atom) → RuleFine AtomFine 1 b r → (t : Token)
-    → (met atomHolds lines r t ≡ true) ↔ Met Satisfied lines r t
-met-iff lines b r fine t = met-by atomHolds Satisfied lines t r (all-to (AlternativeFine AtomFine 1 b _) _ tells (r .alternatives) (fine .alternatives))
+    → (met atomHolds lines r t ≡ true) ↔ Met (SatisfiedIn lines) lines r t
+met-iff lines b r fine t = met-by atomHolds (SatisfiedIn lines) lines t r (all-to (AlternativeFine AtomFine 1 b _) _ tells (r .alternatives) (fine .alternatives))
   where
-    tells : {some : Bool} (a : Alternative Atom) → AlternativeFine AtomFine 1 b some a → Tells atomHolds Satisfied lines t a
+    tells : {some : Bool} (a : Alternative Atom) → AlternativeFine AtomFine 1 b some a → Tells atomHolds (SatisfiedIn lines) lines t a
     tells {some} a f tokens long on =
         let few = f .fewNames in
-        all-to (AtomFine (length (a .names)) some) _ (λ q k. atom-iff t tokens (omega arith) q (k .left .kinds) (k .right .kinds)) (a .asks) (f .asks)
+        all-to (AtomFine (length (a .names)) some) _ (atom-iff (planEnd lines) t tokens (omega arith)) (a .asks) (f .asks)

@@ -68,20 +68,26 @@ pub record Plan (variables : List Variable) (lines : ℕ → List Token) : Type 
 
 -- ---- 000, Definitions 2.5 and 2.9: terms and atoms; name 0 is the trigger's, names 1, 2, .. the statement's
 
--- 000, Definition 2.9, "⟦T⟧": the time of a term under a token mapping (the trigger token, then the names' tokens)
-pub data Evaluates (mapping : List Token) : ℕ → ℕ → ℕ → Type 0 where
-  start : (name : ℕ) → Evaluates mapping 0 name (tokenOf mapping name .start .tick)
-  end : (name : ℕ) → Evaluates mapping 1 name (tokenOf mapping name .end .tick)
-  timestamp : (t : ℕ) → Evaluates mapping 2 t t
+-- 000, Definition 2.9, "⟦T⟧": the time of a term under a token mapping (the trigger token, then the names' tokens). The papers have no term
+-- for the horizon: endOfPlan is the house's (02, L8), "kind 3, end of the plan, argument 0", in a plan that ends at `last`
+pub data Evaluates (last : ℕ) (mapping : List Token) : ℕ → ℕ → ℕ → Type 0 where
+  start : (name : ℕ) → Evaluates last mapping 0 name (tokenOf mapping name .start .tick)
+  end : (name : ℕ) → Evaluates last mapping 1 name (tokenOf mapping name .end .tick)
+  timestamp : (t : ℕ) → Evaluates last mapping 2 t t
+  endOfPlan : Evaluates last mapping 3 0 last
 
 -- 000, Definition 2.9, "l ≤ ⟦T'⟧ - ⟦T⟧ ≤ u", on whole numbers; u may be +∞
-pub record Satisfied (mapping : List Token) (atom : Atom) : Type 0 where
+pub record Satisfied (last : ℕ) (mapping : List Token) (atom : Atom) : Type 0 where
   pub left : ℕ
   pub right : ℕ
-  pub isLeft : Evaluates mapping (atom .leftKind) (atom .left) left
-  pub isRight : Evaluates mapping (atom .rightKind) (atom .right) right
+  pub isLeft : Evaluates last mapping (atom .leftKind) (atom .left) left
+  pub isRight : Evaluates last mapping (atom .rightKind) (atom .right) right
   pub lower : leZ (pos (atom .lower)) (subℕ right left) ≡ true
   pub upper : (atom .upper ≡ noLimit) ⊎ (leZ (subℕ right left) (pos (atom .upper)) ≡ true)
+
+-- in a plan: its end is "the common end" of its timelines
+abbrev pub SatisfiedIn : (ℕ → List Token) → List Token → Atom → Type 0
+SatisfiedIn lines = Satisfied (planEnd lines)
 
 -- ---- 000, Definitions 2.7 and 2.10: existential statements
 

@@ -63,7 +63,9 @@ token-so : (n v x : ℕ) → (tokenWrong n (not (eqb v noLimit)) x ≡ true) ↔
 token-so n v x = or-iff (lt-so n x) (and-iff (eq-so x 0) (no-trigger v))
 
 argument-so : (n v kind x : ℕ) → (argumentWrong n (not (eqb v noLimit)) kind x ≡ true) ↔ ArgumentWrong n v kind x
-argument-so n v kind x = or-iff (and-iff (eq-so kind 2) (lt-so lastTick x)) (and-iff (lt-so kind 2) (token-so n v x))
+argument-so n v kind x =
+    or-iff (and-iff (eq-so kind 2) (lt-so lastTick x))
+    (or-iff (and-iff (eq-so kind 3) (not-eq x 0)) (and-iff (lt-so kind 2) (token-so n v x)))
 
 variable-so : (b : List ℕ) (v : ℕ) → (triggerVariableWrong b v ≡ true) ↔ ((v ≡ noLimit → ⊥) × (count b 0 ≤ v))
 variable-so b v = and-iff (not-eq v noLimit) (le-so (count b 0) v)
@@ -114,9 +116,9 @@ module _ (e : ℕ) (b : List ℕ) (i : ℕ) where
 
   atom-to : (e ≡ 2 → ⊥) → (j : ℕ) → getD (fifthTests e b i) j false ≡ true → WordWrong e b i 5 j
   unfolding fifthTests fifthTestsOf
-  atom-to n zero h = leftKind n (lt-so 2 (word b at) .0 (rw (ne-eqb e 2 n) at h))
+  atom-to n zero h = leftKind n (lt-so 3 (word b at) .0 (rw (ne-eqb e 2 n) at h))
   atom-to n (suc zero) h = leftArgument n (argument-so (namesAt e b i) (triggerOf e b i) (word b at) (word b (at + 1)) .0 (rw (ne-eqb e 2 n) at h))
-  atom-to n (suc (suc zero)) h = rightKind n (lt-so 2 (word b (at + 2)) .0 (rw (ne-eqb e 2 n) at h))
+  atom-to n (suc (suc zero)) h = rightKind n (lt-so 3 (word b (at + 2)) .0 (rw (ne-eqb e 2 n) at h))
   atom-to n (suc (suc (suc zero))) h =
       rightArgument n (argument-so (namesAt e b i) (triggerOf e b i) (word b (at + 2)) (word b (at + 3)) .0 (rw (ne-eqb e 2 n) at h))
   atom-to n (suc (suc (suc (suc zero)))) h = lower n (lower-so 0 (word b (at + 4)) .0 (rw (ne-eqb e 2 n) at h))
@@ -150,9 +152,9 @@ module _ (e : ℕ) (b : List ℕ) (i : ℕ) where
   word-from (asksNumber h) = number-so e b (askRange e) i .1 h
   word-from (nameVariable h) = le-so (count b 0) (field e b 4 i 0) .1 h
   word-from (nameValue h) = le-so (valuesOf e b (field e b 4 i 0)) (field e b 4 i 1) .1 h
-  word-from (leftKind n h) = rw (ne-eqb e 2 n) (lt-so 2 (word b at) .1 h)
+  word-from (leftKind n h) = rw (ne-eqb e 2 n) (lt-so 3 (word b at) .1 h)
   word-from (leftArgument n h) = rw (ne-eqb e 2 n) (argument-so (namesAt e b i) (triggerOf e b i) (word b at) (word b (at + 1)) .1 h)
-  word-from (rightKind n h) = rw (ne-eqb e 2 n) (lt-so 2 (word b (at + 2)) .1 h)
+  word-from (rightKind n h) = rw (ne-eqb e 2 n) (lt-so 3 (word b (at + 2)) .1 h)
   word-from (rightArgument n h) = rw (ne-eqb e 2 n) (argument-so (namesAt e b i) (triggerOf e b i) (word b (at + 2)) (word b (at + 3)) .1 h)
   word-from (lower n h) = rw (ne-eqb e 2 n) (lower-so 0 (word b (at + 4)) .1 h)
   word-from (upper n h) = rw (ne-eqb e 2 n) (upper-so (word b (at + 4)) (word b (at + 5)) .1 h)

@@ -20,7 +20,7 @@ use Rattle.book.proofs.Inside.{alternative-ranges, name-ranges, ask-ranges}
 use Rattle.lines.specs.declared.Token.{Token}
 use Rattle.choice.specs.Met.{Choice, nobody, atomHolds, constraintHolds, met}
 use Rattle.verdict.specs.Judged.{untriggered, triggerLine, isTrigger, unmet, firstUnmet, ruleUnmet}
-use Rattle.claims.specs.Papers.{tokenOf, Plan, Satisfied, On, Met, Satisfies}
+use Rattle.claims.specs.Papers.{tokenOf, Plan, SatisfiedIn, On, Met, Satisfies}
 use Rattle.claims.specs.Sheets.{Holds, SheetSatisfies}
 use Rattle.claims.specs.Laws.{all-to}
 use Rattle.claims.specs.Decoded.{RuleFine, ConstraintFine, rules-fine, sheet-rules}
@@ -183,9 +183,9 @@ settles-by holds Holds lines r iff =
 
 -- so the judge settles for each whether the plan satisfies it, by 000, Definition 2.11
 pub book-settles : {b : List ℕ} (lines : ℕ → List Token) → Sound 1 b → Plan (variablesOf b) lines
-    → All (λ (r : Rule Atom). Settles atomHolds lines r (Satisfies Satisfied lines r) (Fails lines r (Met Satisfied lines r))) (rulesOf atoms b)
+    → All (λ (r : Rule Atom). Settles atomHolds lines r (Satisfies (SatisfiedIn lines) lines r) (Fails lines r (Met (SatisfiedIn lines) lines r))) (rulesOf atoms b)
 book-settles {b} lines s plan =
-    all-to (RuleFine AtomFine 1 b) _ (λ r f. settles-by atomHolds Satisfied lines r (λ i. met-iff lines b r f _)) (rulesOf atoms b) (book-rules s)
+    all-to (RuleFine AtomFine 1 b) _ (λ r f. settles-by atomHolds (SatisfiedIn lines) lines r (λ i. met-iff lines b r f _)) (rulesOf atoms b) (book-rules s)
 
 -- and the direct judge for each rule of a sheet
 pub sheet-settles : {s : List ℕ} (lines : ℕ → List Token) → Sound 2 s → Plan (variablesOf s) lines

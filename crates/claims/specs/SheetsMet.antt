@@ -18,6 +18,7 @@ use Rattle.clock.specs.Clock.{noLimit}
 use Rattle.layout.specs.Layout.{count, offset}
 use Rattle.book.specs.Rules.{Constraint, Variable, Alternative, Rule, variableAt, variablesOf}
 use Rattle.lines.specs.declared.Token.{Token}
+use Rattle.lines.specs.Ends.{planEnd}
 use Rattle.allen.specs.Relation.{conditions, relationOf}
 use Rattle.allen.specs.One.{stands-in, relation-below}
 use Rattle.choice.specs.Met.{nobody, tokenTime, constraintHolds, met}
@@ -91,13 +92,13 @@ module _ (s e s' e' : ℕ) where
 abbrev pub Proper : Token → Type 0
 Proper t = t .start .tick < t .end .tick
 
-module _ (trigger : Token) (tokens : List Token) (few : length tokens ≤ 4) (proper : (k : ℕ) → Proper (tokenOf (trigger ∷ tokens) k)) where
+module _ (last : ℕ) (trigger : Token) (tokens : List Token) (few : length tokens ≤ 4) (proper : (k : ℕ) → Proper (tokenOf (trigger ∷ tokens) k)) where
   -- the test is that the relation is in the set
-  pub constraint-iff : (q : Constraint) → (constraintHolds (exists.choiceOf trigger tokens) q ≡ true) ↔ Holds (trigger ∷ tokens) q
+  pub constraint-iff : (q : Constraint) → (constraintHolds (exists.choiceOf last trigger tokens) q ≡ true) ↔ Holds (trigger ∷ tokens) q
   unfolding constraintHolds
   constraint-iff q =
-      let l = choice-time trigger tokens (q .left) few in
-      let r = choice-time trigger tokens (q .right) few in
+      let l = choice-time last trigger tokens (q .left) few in
+      let r = choice-time last trigger tokens (q .right) few in
       let left : Token = tokenOf (trigger ∷ tokens) (q .left) in
       let right : Token = tokenOf (trigger ∷ tokens) (q .right) in
       let is = relation-is (left .start .tick) (left .end .tick) (right .start .tick) (right .end .tick) (proper (q .left)) (proper (q .right)) in
@@ -150,4 +151,4 @@ module _ (s : List ℕ) (lines : ℕ → List Token) (plan : Plan (variablesOf s
       tells : {some : Bool} (a : Alternative Constraint) → AlternativeFine ConstraintFine 2 s some a → Tells constraintHolds Holds lines t a
       tells a f tokens long on =
           let few = f .fewNames in
-          all-each _ (constraint-iff t tokens (omega arith) (mapping-proper t h a tokens long (f .names) on)) (a .asks)
+          all-each _ (constraint-iff (planEnd lines) t tokens (omega arith) (mapping-proper t h a tokens long (f .names) on)) (a .asks)

@@ -79,7 +79,10 @@ module _ {b : List ℕ} (s : Sound 1 b) where
   term-word {kind = kind} l t =
       let k = t .kinds in (
         omega arith,
-        elim (ℕ-discrete kind 2) [ yes q ↦ omega (arith, t .point q) | no m ↦ omega (arith, t .token (omega arith) .named) ],
+        elim (ℕ-discrete kind 2) [
+          | yes q ↦ omega (arith, t .point q)
+          | no m ↦ elim (ℕ-discrete kind 3) [ yes q ↦ omega (arith, t .last q) | no o ↦ omega (arith, t .token (omega arith) .named) ]
+        ],
       )
 
   atom-words : (i : ℕ) → i < count b 5 → (j : ℕ) → j < 6 → Word (word b (recordAt 1 b 5 i + j))

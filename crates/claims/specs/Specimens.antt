@@ -10,6 +10,7 @@ use Rattle.answers.specs.declared.Numbers.{Numbers}
 use Rattle.answers.specs.Numbers.{numbersAt, numbers, orElse}
 use Rattle.words.specs.Lists.{any, all}
 use Rattle.words.specs.Words.{inSet}
+use Rattle.words.specs.Write.{puts}
 use Rattle.words.specs.Least.{least, first}
 use Rattle.words.specs.Runs.{run, rows}
 use Rattle.clock.specs.Clock.{noLimit, inBounds}
@@ -25,7 +26,7 @@ use Rattle.lines.specs.Ends.{endFrom, endsApart, endsFault}
 use Rattle.plan.specs.Fault as plan
 use Rattle.allen.specs.Relation.{relationOf}
 use Rattle.allen.specs.Atoms.{atomsOf}
-use Rattle.choice.specs.Met.{put, tokenTime, timeOf, atomHolds, constraintHolds, place, alternativeMet, met}
+use Rattle.choice.specs.Met.{put, tokenTime, endTime, timeOf, atomHolds, constraintHolds, place, alternativeMet, met}
 use Rattle.verdict.specs.Judged.{counted, triggerLine, isTrigger, examined, unmet, firstUnmet, ruleUnmet, rulesFault, judged, judgedSheet}
 use Rattle.listing.specs.Expand.{keep, relationsIn, choices, atomsFor, expand, translate}
 use Rattle.translator.specs.Translation.{rulesFor, translated, tooMany, ruleFault, sizeFault, roomFault, translation}
@@ -60,6 +61,27 @@ freeNamed =
     ∷ noLimit ∷ 0 ∷ 0 ∷ 1
     ∷ 0 ∷ 1 ∷ 0 ∷ 0
     ∷ 0 ∷ 1 ∷ []
+
+-- 02, L8: a rule without trigger and names, from time point 0 to the end of the plan at least 1; over one variable with one value
+abbrev pub endBook : List ℕ
+endBook =
+    1 ∷ 33 ∷ 1 ∷ 14 ∷ 1 ∷ 16 ∷ 1 ∷ 19 ∷ 1 ∷ 23 ∷ 0 ∷ 27 ∷ 1 ∷ 27
+    ∷ 0 ∷ 1
+    ∷ 1 ∷ noLimit ∷ 1
+    ∷ noLimit ∷ 0 ∷ 0 ∷ 1
+    ∷ 0 ∷ 0 ∷ 0 ∷ 1
+    ∷ 2 ∷ 0 ∷ 3 ∷ 0 ∷ 1 ∷ noLimit ∷ []
+
+-- "at least 20 before the end": E with one atom more, from the end of the RIP's job to the end of the plan
+abbrev pub truckBook : List ℕ
+truckBook =
+    1 ∷ 58 ∷ 2 ∷ 14 ∷ 4 ∷ 18 ∷ 1 ∷ 30 ∷ 1 ∷ 34 ∷ 1 ∷ 38 ∷ 3 ∷ 40
+    ∷ 0 ∷ 2 ∷ 2 ∷ 2
+    ∷ 1 ∷ noLimit ∷ 2 ∷ 1 ∷ noLimit ∷ 1 ∷ 1 ∷ noLimit ∷ 2 ∷ 5 ∷ 60 ∷ 3
+    ∷ 1 ∷ 1 ∷ 0 ∷ 1
+    ∷ 0 ∷ 1 ∷ 0 ∷ 3
+    ∷ 0 ∷ 1
+    ∷ 0 ∷ 1 ∷ 0 ∷ 0 ∷ 0 ∷ noLimit ∷ 1 ∷ 0 ∷ 1 ∷ 1 ∷ 0 ∷ noLimit ∷ 1 ∷ 0 ∷ 3 ∷ 0 ∷ 20 ∷ noLimit ∷ []
 
 -- what document 01 says of an input
 pub data Specimen : Type 0 where
@@ -128,9 +150,16 @@ specimens =
     -- 4 with a word: E's last upper bound, and the sheet's set
     ∷ byBook (set bookE 51 4294967294) planP2 (numbersAt 4 5 1 5)
     ∷ bySheet (set sheetE 42 8192) planP2 (numbersAt 4 5 0 2)
+    -- 02, L8: "The end of an empty plan is 0"; a token of 1; both sides the end of the plan; P2's second job ends with the plan
+    ∷ byBook endBook (1 ∷ 5 ∷ 1 ∷ 0 ∷ 0 ∷ []) (numbers 12 0 0)
+    ∷ byBook endBook (1 ∷ 7 ∷ 1 ∷ 0 ∷ 1 ∷ 0 ∷ 1 ∷ []) (numbers 0 1 0)
+    ∷ byBook (puts endBook 27 (3 ∷ 0 ∷ 3 ∷ 0 ∷ 0 ∷ 0 ∷ [])) (1 ∷ 5 ∷ 1 ∷ 0 ∷ 0 ∷ []) (numbers 0 1 0)
+    ∷ byBook (puts endBook 27 (3 ∷ 0 ∷ 3 ∷ 0 ∷ 1 ∷ noLimit ∷ [])) (1 ∷ 7 ∷ 1 ∷ 0 ∷ 1 ∷ 0 ∷ 1 ∷ []) (numbers 12 0 0)
+    ∷ byBook truckBook planP2 (numbers 12 0 3)
+    ∷ byBook (set truckBook 56 0) planP2 (numbers 0 2 0)
     ∷ []
 
 -- THE CLAIM: every specimen is as stated
 pub all-stand : all stands specimens ≡ true
-unfolding all any flatMap orElse least first run rows inSet inBounds fifthWidth fifthMost begins headerWrong starts owner setWrong valueTests fifthTestsOf fifthTests wrongWord recordWrong leaves tableWrong toldWord book.lengthFault book.headerFault book.endFault book.recordFault book.bookFault nameAt atomAt constraintAt alternativeAt ruleAt rulesOf bookOf tokensFrom lineOf plan.lengthFault plan.sumBefore plan.headWrong plan.headFault plan.endFault plan.startOf plan.durationOutside plan.notSuccessor plan.tokenFault plan.tokenWrong plan.firstToken plan.lineWrong plan.tokensFault plan.planFault endFrom endsApart endsFault relationOf atomsOf put tokenTime timeOf atomHolds constraintHolds place alternativeMet met counted triggerLine isTrigger examined unmet firstUnmet ruleUnmet rulesFault judged judgedSheet keep relationsIn choices atomsFor expand translate rulesFor translated tooMany ruleFault sizeFault roomFault translation
+unfolding all any flatMap orElse least first run rows inSet inBounds fifthWidth fifthMost begins headerWrong starts owner setWrong valueTests fifthTestsOf fifthTests wrongWord recordWrong leaves tableWrong toldWord book.lengthFault book.headerFault book.endFault book.recordFault book.bookFault nameAt atomAt constraintAt alternativeAt ruleAt rulesOf bookOf tokensFrom lineOf plan.lengthFault plan.sumBefore plan.headWrong plan.headFault plan.endFault plan.startOf plan.durationOutside plan.notSuccessor plan.tokenFault plan.tokenWrong plan.firstToken plan.lineWrong plan.tokensFault plan.planFault endFrom endsApart endsFault relationOf atomsOf put tokenTime endTime timeOf atomHolds constraintHolds place alternativeMet met counted triggerLine isTrigger examined unmet firstUnmet ruleUnmet rulesFault judged judgedSheet keep relationsIn choices atomsFor expand translate rulesFor translated tooMany ruleFault sizeFault roomFault translation
 all-stand = refl

@@ -36,10 +36,10 @@ module _ (n : ℕ) (trigger : Bool) where
   TermFine p = TermSound n trigger (p .kind) (p .token)
 
   start-fine : (k : ℕ) → TokenSound n trigger k → TermFine (start k)
-  start-fine k h = record { kinds = omega arith; point = λ e. absurd (omega arith); token = λ l. h }
+  start-fine k h = record { kinds = omega arith; point = λ e. absurd (omega arith); last = λ e. absurd (omega arith); token = λ l. h }
 
   end-fine : (k : ℕ) → TokenSound n trigger k → TermFine (end k)
-  end-fine k h = record { kinds = omega arith; point = λ e. absurd (omega arith); token = λ l. h }
+  end-fine k h = record { kinds = omega arith; point = λ e. absurd (omega arith); last = λ e. absurd (omega arith); token = λ l. h }
 
   less-fine : (p q : Term) → TermFine p → TermFine q → AtomFine n trigger (p <· q)
   less-fine p q h k = record { left = h; right = k; bounds = record { from = omega arith; tick = omega arith; order = omega arith; limit = inr refl } }

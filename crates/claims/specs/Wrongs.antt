@@ -62,9 +62,9 @@ UpperWrong x y = (y < x) ⊎ ((lastTick < y) × (y ≡ noLimit → ⊥))
 abbrev pub NoToken : ℕ → ℕ → ℕ → Type 0
 NoToken n v x = (n < x) ⊎ ((x ≡ 0) × (v ≡ noLimit))
 
--- "A time point is 0..1,000,000,000"; for 0 and 1 the argument is a token
+-- "A time point is 0..1,000,000,000"; "kind 3, end of the plan, argument 0"; for 0 and 1 the argument is a token
 abbrev pub ArgumentWrong : ℕ → ℕ → ℕ → ℕ → Type 0
-ArgumentWrong n v kind x = ((kind ≡ 2) × (lastTick < x)) ⊎ ((kind < 2) × NoToken n v x)
+ArgumentWrong n v kind x = ((kind ≡ 2) × (lastTick < x)) ⊎ (((kind ≡ 3) × (x ≡ 0 → ⊥)) ⊎ ((kind < 2) × NoToken n v x))
 
 -- the trigger variable of the rule that record i of table 5 belongs to
 abbrev pub triggerOf : ℕ → List ℕ → ℕ → ℕ
@@ -96,9 +96,9 @@ pub data WordWrong (e : ℕ) (b : List ℕ) (i : ℕ) : ℕ → ℕ → Type 0 w
   nameVariable : count b 0 ≤ field e b 4 i 0 → WordWrong e b i 4 0
   nameValue : valuesOf e b (field e b 4 i 0) ≤ field e b 4 i 1 → WordWrong e b i 4 1
   -- a book's table 5: "left kind, left argument, right kind, right argument, lower, upper"
-  leftKind : (e ≡ 2 → ⊥) → 2 < word b (recordAt e b 5 i) → WordWrong e b i 5 0
+  leftKind : (e ≡ 2 → ⊥) → 3 < word b (recordAt e b 5 i) → WordWrong e b i 5 0
   leftArgument : (e ≡ 2 → ⊥) → ArgumentWrong (namesAt e b i) (triggerOf e b i) (word b (recordAt e b 5 i)) (field e b 5 i 1) → WordWrong e b i 5 1
-  rightKind : (e ≡ 2 → ⊥) → 2 < field e b 5 i 2 → WordWrong e b i 5 2
+  rightKind : (e ≡ 2 → ⊥) → 3 < field e b 5 i 2 → WordWrong e b i 5 2
   rightArgument : (e ≡ 2 → ⊥) → ArgumentWrong (namesAt e b i) (triggerOf e b i) (field e b 5 i 2) (field e b 5 i 3) → WordWrong e b i 5 3
   lower : (e ≡ 2 → ⊥) → LowerWrong 0 (field e b 5 i 4) → WordWrong e b i 5 4
   upper : (e ≡ 2 → ⊥) → UpperWrong (field e b 5 i 4) (field e b 5 i 5) → WordWrong e b i 5 5

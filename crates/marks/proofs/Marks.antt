@@ -17,11 +17,12 @@ use Rattle.words.specs.Runs.{run, length-run, run-at}
 use Rattle.book.specs.Rules.{nameAt}
 use Rattle.lines.specs.declared.Token.{Token}
 use Rattle.lines.specs.Lines.{token, tokensFrom, lineOf}
+use Rattle.lines.specs.Ends.{planEnd}
 use Rattle.choice.specs.declared.Alternative.{Alternative}
 use Rattle.choice.specs.declared.Tokens.{Tokens}
-use Rattle.choice.specs.Met.{Choice, nobody, triggered, put, tokenTime}
+use Rattle.choice.specs.Met.{Choice, choiceSize, timePlace, nobody, put, tokenTime}
 use Rattle.choice.specs.Exists.{Among, noName, chosen, choiceOf}
-use Rattle.choice.specs.Asked.{asksHold, tokensOf}
+use Rattle.choice.specs.Asked.{asksHold, triggeredIn, tokensOf}
 use Rattle.choice.proofs.Laws.{put-first, put-second, put-else, put-long}
 use Rattle.choice.proofs.Exists.{choice-time}
 use Rattle.marks.specs.declared.Early.{Early}
@@ -42,6 +43,10 @@ pub advanced-as : (p : List ℕ) (k : ℕ) (w w' : Tokens) (c r c' r' : Choice) 
 advanced-as p k w w' c r c' r' f h g = rw h at g
 
 module _ (b p : List ℕ) (a : Alternative) (t : Token) where
+  -- the end of the plan
+  abbrev last : ℕ
+  last = planEnd (lineOf p)
+
   -- ---- a choice
 
   chosen-size : (u : Token) (ts : List Token) → Choosing b p a u ts → length ts ≡ a .names
@@ -65,7 +70,7 @@ module _ (b p : List ℕ) (a : Alternative) (t : Token) where
   mark-same j h h' l l' q q' x y z m = rw (x, y, z) m
 
   -- at the start no name is marked
-  pub marked-none : (c r : Choice) → a .names ≤ 4 → c ≡ triggered t → length r ≡ 10 → Marked b p a t 0 c r
+  pub marked-none : (c r : Choice) → a .names ≤ 4 → c ≡ triggeredIn p t → length r ≡ choiceSize → Marked b p a t 0 c r
   unfolding choiceOf chosen
   marked-none c r four h l =
       record { heads = []; size = refl; few = omega arith; four = four; is = h; long = l; each = λ j k. absurd (omega arith) }
@@ -74,7 +79,7 @@ module _ (b p : List ℕ) (a : Alternative) (t : Token) where
   marked-full i c r h f = let q : i ≡ a .names = omega (arith, f .few) in rw q at f
 
   marked-by : (i i' j : ℕ) (c c' r r' : Choice) (hs : List Token) (h : Token) (left q : ℕ) (old : Marked b p a t i c r)
-      → length hs ≡ i' → i' ≤ a .names → j < i' → c' ≡ choiceOf t hs → r' ≡ put r (j + 1) left q → getD hs j nobody ≡ h
+      → length hs ≡ i' → i' ≤ a .names → j < i' → c' ≡ choiceOf last t hs → r' ≡ put r (j + 1) left q → getD hs j nobody ≡ h
       → ((x : ℕ) → x < i' → (x ≡ j → ⊥) → (x < i) × (getD hs x nobody ≡ getD (old .heads) x nobody))
       → Mark b p a t j h left q → Marked b p a t i' c' r'
   marked-by i i' j c c' r r' hs h left q old size few lj is hr hh same mk =
@@ -88,7 +93,7 @@ module _ (b p : List ℕ) (a : Alternative) (t : Token) where
         each = λ x l. each x l (eqb x j) refl;
       }
     where
-      room : 2 * (j + 1) + 1 < length r
+      room : timePlace 1 (j + 1) < length r
       room = omega (arith, old .long, old .four)
 
       first : tokenTime r' 0 (j + 1) ≡ left
@@ -176,13 +181,13 @@ module _ (b p : List ℕ) (a : Alternative) (t : Token) where
         let v = line-value j w hw in
         let x = found j (j + 1) w c r c' r' f lj s v g in
         marked-by j (j + 1) j c c' r r' (old .heads ++ (x ∷ [])) x (g .seen .left) (g .seen .place) old (simp length-append (omega (arith, old .size))) (omega arith) (omega arith)
-        (g .times h ∙ times x) (g .marks h) (last x) (same x) (found-mark j (j + 1) w c r c' r' f lj s v g h)
+        (g .times h ∙ times x) (g .marks h) (at-last x) (same x) (found-mark j (j + 1) w c r c' r' f lj s v g h)
       where
-        times : (x : Token) → put c (j + 1) (x .start .tick) (x .end .tick) ≡ choiceOf t (old .heads ++ (x ∷ []))
-        times x = rw (old .is) (rw (← old .size) (sym (choice-more t (old .heads) x (omega (arith, old .size, old .four)))))
+        times : (x : Token) → put c (j + 1) (x .start .tick) (x .end .tick) ≡ choiceOf last t (old .heads ++ (x ∷ []))
+        times x = rw (old .is) (rw (← old .size) (sym (choice-more last t (old .heads) x (omega (arith, old .size, old .four)))))
 
-        last : (x : Token) → getD (old .heads ++ (x ∷ [])) j nobody ≡ x
-        last x = rw (← old .size) (end (old .heads) x)
+        at-last : (x : Token) → getD (old .heads ++ (x ∷ [])) j nobody ≡ x
+        at-last x = rw (← old .size) (end (old .heads) x)
           where
             end : (hs : List Token) (x : Token) → getD (hs ++ (x ∷ [])) (length hs) nobody ≡ x
             end [] x = refl
@@ -202,16 +207,16 @@ module _ (b p : List ℕ) (a : Alternative) (t : Token) where
 
   module _ (c r : Choice) (k : Marked b p a t (a .names) c r) where
     -- every choice is of tokens that are at the marks or later
-    choice-grown : (u : Token) → Later t u → (ts : List Token) → Choosing b p a u ts → Grown (a .names) c (choiceOf u ts)
+    choice-grown : (u : Token) → Later t u → (ts : List Token) → Choosing b p a u ts → Grown (a .names) c (choiceOf last u ts)
     choice-grown u g ts f =
         rw (k .is)
-        (grown-tokens (a .names) t u (k .heads) ts (k .size) (chosen-size u ts f) (k .four) g
+        (grown-tokens last (a .names) t u (k .heads) ts (k .size) (chosen-size u ts f) (k .four) g
         (λ j l.
         let mk = k .each j l in
         let q = first-grow p (getD ts j nobody) _ _ _ (mk .some) (mk .source .from u g ts f) in
         record { start = q .0; end = omega (arith, q .1, ap (λ (z : Token). z .end .tick) (mk .head)) }))
 
-    choice-pass : (u : Token) (ts : List Token) → Choosing b p a u ts → asksHold b a (choiceOf u ts) ≡ true
+    choice-pass : (u : Token) (ts : List Token) → Choosing b p a u ts → asksHold b a (choiceOf last u ts) ≡ true
     unfolding choiceOf
     choice-pass u ts f = f .pass
 
@@ -219,8 +224,8 @@ module _ (b p : List ℕ) (a : Alternative) (t : Token) where
     choice-ahead : (x : ℕ) (o : Early) → Told c (a .names) o (asksHold b a) → o ≡ Name x → (u : Token) → Later t u → (ts : List Token) → Choosing b p a u ts
         → (getD (t ∷ k .heads) x nobody .start .tick < getD (u ∷ ts) x nobody .start .tick) ⊎ (getD (t ∷ k .heads) x nobody .end .tick < getD (u ∷ ts) x nobody .end .tick)
     choice-ahead x o f h u g ts q =
-        let z : Ahead c (choiceOf u ts) x = f .behind x h .ahead (choiceOf u ts) (choice-grown u g ts q) (choice-pass u ts q) in
-        ahead-token t u (k .heads) ts x (omega (arith, k .size, k .four)) (omega (arith, chosen-size u ts q, k .four)) (rw (k .is) at z)
+        let z : Ahead c (choiceOf last u ts) x = f .behind x h .ahead (choiceOf last u ts) (choice-grown u g ts q) (choice-pass u ts q) in
+        ahead-token last t u (k .heads) ts x (omega (arith, k .size, k .four)) (omega (arith, chosen-size u ts q, k .four)) (rw (k .is) at z)
 
     -- it is the trigger token
     pub raise-now : (x : ℕ) (o : Early) → x ≡ 0 → o ≡ Name x → Told c (a .names) o (asksHold b a) → (ts : List Token) → Choosing b p a t ts → ⊥
@@ -240,7 +245,7 @@ module _ (b p : List ℕ) (a : Alternative) (t : Token) where
 
       ends : tokenTime c 1 x ≡ getD (k .heads) j nobody .start .tick + word p (tokenTime r 1 x + 1)
       ends =
-          ap (λ (z : Choice). tokenTime z 1 x) (k .is) ∙ choice-time t (k .heads) x (omega (arith, k .size, k .four)) .1
+          ap (λ (z : Choice). tokenTime z 1 x) (k .is) ∙ choice-time last t (k .heads) x (omega (arith, k .size, k .four)) .1
           ∙ rw (hx, next-token t (k .heads) j) (rw hx at (ap (λ (z : Token). z .end .tick) (mark .head)))
 
       pub mark-some : tokenTime r 0 x ≡ 0 → ⊥
@@ -290,8 +295,8 @@ module _ (b p : List ℕ) (a : Alternative) (t : Token) where
             (λ i l ne. (l, getD-set-other (k .heads) j i y nobody ne))
             (found-mark j x next c r c' r' f below next-source value g h)
           where
-            times : (y : Token) → put c x (y .start .tick) (y .end .tick) ≡ choiceOf t (set (k .heads) j y)
-            times y = rw (k .is, hx) (sym (choice-set t (k .heads) j y (omega (arith, k .size, below)) (omega (arith, k .size, k .four))))
+            times : (y : Token) → put c x (y .start .tick) (y .end .tick) ≡ choiceOf last t (set (k .heads) j y)
+            times y = rw (k .is, hx) (sym (choice-set last t (k .heads) j y (omega (arith, k .size, below)) (omega (arith, k .size, k .four))))
 
         pub raise-less : f ≡ true → total r' < total r
         raise-less h =

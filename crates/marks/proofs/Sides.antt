@@ -49,27 +49,29 @@ module _ (c : Choice) (n : ℕ) (test : Choice → Bool) where
 -- ---- bounds
 
 -- kinds of which something is told
-pub few-kinds : (i j : ℕ) → (ltb 2 i || ltb 2 j) ≡ false → (i ≤ 2) × (j ≤ 2)
-few-kinds i j h = let q = none-true (ltb 2 i) (ltb 2 j) h in (ltb-false 2 i (q .0), ltb-false 2 j (q .1))
+pub few-kinds : (i j : ℕ) → (ltb 3 i || ltb 3 j) ≡ false → (i ≤ 3) × (j ≤ 3)
+few-kinds i j h = let q = none-true (ltb 3 i) (ltb 3 j) h in (ltb-false 3 i (q .0), ltb-false 3 j (q .1))
 
 module _ (n : ℕ) (c d : Choice) (g : Grown n c d) where
-  time-grown : (kind x : ℕ) → kind ≤ 2 → timeOf c kind x ≤ timeOf d kind x
+  time-grown : (kind x : ℕ) → kind ≤ 3 → timeOf c kind x ≤ timeOf d kind x
   unfolding timeOf
   time-grown zero x h = g .later 0 x (omega arith)
   time-grown (suc zero) x h = g .later 1 x (omega arith)
   time-grown (suc (suc zero)) x h = omega arith
-  time-grown (suc (suc (suc k))) x h = absurd (omega arith)
+  time-grown (suc (suc (suc zero))) x h = omega (arith, g .last)
+  time-grown (suc (suc (suc (suc k)))) x h = absurd (omega arith)
 
   ahead-named : (kind x : ℕ) (t : Bool) → kind < 2 → leb x n ≡ t → tokenTime c kind x < tokenTime d kind x → Ahead c d (cond t x 0)
   ahead-named kind x true k q l = record { kind = kind; token = k; ahead = l }
   ahead-named kind x false k q l = absurd (omega (arith, g .past kind x k (leb-false x n q)))
 
-  pub ahead-whose : (kind x : ℕ) → kind ≤ 2 → timeOf c kind x < timeOf d kind x → Ahead c d (whose kind x n)
+  pub ahead-whose : (kind x : ℕ) → kind ≤ 3 → timeOf c kind x < timeOf d kind x → Ahead c d (whose kind x n)
   unfolding timeOf whose
   ahead-whose zero x h l = ahead-named 0 x (leb x n) (omega arith) refl l
   ahead-whose (suc zero) x h l = ahead-named 1 x (leb x n) (omega arith) refl l
   ahead-whose (suc (suc zero)) x h l = absurd (omega arith)
-  ahead-whose (suc (suc (suc k))) x h l = absurd (omega arith)
+  ahead-whose (suc (suc (suc zero))) x h l = absurd (omega (arith, g .last))
+  ahead-whose (suc (suc (suc (suc k)))) x h l = absurd (omega arith)
 
 pub whose-few : (kind x n : ℕ) → whose kind x n ≤ n
 unfolding whose
@@ -80,7 +82,7 @@ whose-few kind x n = go (ltb kind 2) (leb x n) refl
     go true false q = omega arith
     go false t q = omega arith
 
-module _ (c : Choice) (n i x j y lower upper : ℕ) (li : i ≤ 2) (lj : j ≤ 2) (left right : Time) (f : Bool) (hl : left ≡ at (timeOf c i x))
+module _ (c : Choice) (n i x j y lower upper : ℕ) (li : i ≤ 3) (lj : j ≤ 3) (left right : Time) (f : Bool) (hl : left ≡ at (timeOf c i x))
     (hr : right ≡ at (timeOf c j y)) (hf : f ≡ inBounds noLimit (left .tick) (right .tick) lower noLimit) where
   -- right minus left is below lower: the right side is too early
   pub told-right : (r : ℕ) → f ≡ false → r ≡ whose j y n → Told c n (Name r) (within i x j y lower upper)

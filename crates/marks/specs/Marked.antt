@@ -13,11 +13,12 @@ use Rattle.clock.specs.Clock.{noLimit, inBounds}
 use Rattle.book.specs.Rules.{nameAt}
 use Rattle.lines.specs.declared.Token.{Token}
 use Rattle.lines.specs.Lines.{token, tokensFrom, lineOf}
+use Rattle.lines.specs.Ends.{planEnd}
 use Rattle.choice.specs.declared.Alternative.{Alternative}
 use Rattle.choice.specs.declared.Tokens.{Tokens}
-use Rattle.choice.specs.Met.{Choice, nobody, triggered, put, tokenTime, timeOf}
+use Rattle.choice.specs.Met.{Choice, choiceSize, nobody, put, tokenTime, endTime, timeOf}
 use Rattle.choice.specs.Exists.{Among, Placed, choiceOf}
-use Rattle.choice.specs.Asked.{askHolds, asksHold}
+use Rattle.choice.specs.Asked.{askHolds, asksHold, triggeredIn}
 use Rattle.marks.specs.declared.Seen.{Seen}
 use Rattle.marks.specs.declared.Early.{Early}
 use Rattle.marks.specs.declared.Found.{Found}
@@ -60,8 +61,9 @@ nextOf b a k c r =
 
 -- ---- which name is too early
 
--- d is a choice of later tokens, but for the names past the n-th, which it hasn't
+-- d is a choice of later tokens in the same plan, but for the names past the n-th, which it hasn't
 pub record Grown (n : ℕ) (c d : Choice) : Type 0 where
+  pub last : endTime c ≡ endTime d
   pub later : (kind x : ℕ) → kind < 2 → tokenTime c kind x ≤ tokenTime d kind x
   pub past : (kind x : ℕ) → kind < 2 → n < x → tokenTime c kind x ≡ tokenTime d kind x
 
@@ -80,7 +82,7 @@ pub record Behind (c : Choice) (n x : ℕ) (test : Choice → Bool) : Type 0 whe
 pub record Told (c : Choice) (n : ℕ) (r : Early) (test : Choice → Bool) : Type 0 where
   pub behind : (x : ℕ) → r ≡ Name x → Behind c n x test
 
--- the number of the name that a term is of, and 0 for the trigger, for a time point and past the n-th name
+-- the number of the name that a term is of, and 0 for the trigger, for a time point, for the plan's end and past the n-th name
 unfoldable pub whose : ℕ → ℕ → ℕ → ℕ
 whose kind x n = cond (ltb kind 2 && leb x n) x 0
 
@@ -147,7 +149,7 @@ pub record Later (t u : Token) : Type 0 where
 
 -- the tokens ts are a choice for the trigger token u: "a token for each of its names .. so that all atoms hold"
 abbrev pub Choosing : List ℕ → List ℕ → Alternative → Token → List Token → Type 0
-Choosing b p a u ts = Placed (lineOf p) (asksHold b a) (run (nameAt b) 2 (a .names) (a .name)) 1 (triggered u) ts
+Choosing b p a u ts = Placed (lineOf p) (asksHold b a) (run (nameAt b) 2 (a .names) (a .name)) 1 (triggeredIn p u) ts
 
 -- every choice for t, or for a later trigger token, has for name j one of the count tokens from a place on, which are of its line
 pub record Source (b p : List ℕ) (a : Alternative) (t : Token) (j count place start : ℕ) : Type 0 where
@@ -168,8 +170,8 @@ pub record Marked (b p : List ℕ) (a : Alternative) (t : Token) (i : ℕ) (c r 
   pub size : length heads ≡ i
   pub few : i ≤ a .names
   pub four : a .names ≤ 4
-  pub is : c ≡ choiceOf t heads
-  pub long : length r ≡ 10
+  pub is : c ≡ choiceOf (planEnd (lineOf p)) t heads
+  pub long : length r ≡ choiceSize
   pub each : (j : ℕ) → j < i → Mark b p a t j (getD heads j nobody) (tokenTime r 0 (j + 1)) (tokenTime r 1 (j + 1))
 
 -- no choice for the trigger token t, nor for a later one

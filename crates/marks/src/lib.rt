@@ -5,8 +5,8 @@ ghost use mathlib.Core.Bool.{true, false, _||_, not};
 ghost use Prim.Native.Nat.{_+_, _*_, _<_, _≤_, _^_};
 ghost use lib.ListN.{length};
 ghost use Rattle.words.specs.Words.{inSet};
-ghost use Rattle.choice.specs.Met.{triggered, tokenTime};
-ghost use Rattle.choice.specs.Asked.{askHolds, asksHold};
+ghost use Rattle.choice.specs.Met.{choiceSize, tokenTime};
+ghost use Rattle.choice.specs.Asked.{askHolds, asksHold, triggeredIn};
 ghost use Rattle.marks.specs.Marked.{Sought, Advanced, nextOf, Told, whose, within, askAt, needsRight, needsLeft, allNeed, Marked, Started, Raised};
 use choice::Alternative;
 use choice::Tokens;
@@ -56,7 +56,7 @@ fn seek(p: &[u32], w: Tokens) -> Seen
 
 // Marks for name number k the first of some tokens that has its value, if there is one: c has the times of the marked tokens, and r the
 // tokens left there and the place.
-fn advance(p: &[u32], c: &mut [u64; 10], r: &mut [u64; 10], k: usize, w: Tokens) -> bool
+fn advance(p: &[u32], c: &mut [u64; 11], r: &mut [u64; 11], k: usize, w: Tokens) -> bool
     requires { ⌜ (k < 2 ^ 60) × (w .place + 2 * w .count < 2 ^ 60) × (w .start + 4294967296 * w .count < 2 ^ 64) ⌝ }
     ensures { λ f. ⌜ Advanced (now (p .entry)) k w (now (c .entry)) (now (r .entry)) (now (c .exit)) (now (r .exit)) f ⌝ }
 {
@@ -75,10 +75,10 @@ pub fn start_marks(
     p: &[u32],
     t: Token,
     a: Alternative,
-    c: &mut [u64; 10],
-    r: &mut [u64; 10],
+    c: &mut [u64; 11],
+    r: &mut [u64; 11],
 ) -> bool
-    requires { ⌜ (a .names ≤ 4) × (a .name < 2 ^ 40) × (now c ≡ triggered t) × (length (now r) ≡ 10) ⌝ }
+    requires { ⌜ (a .names ≤ 4) × (a .name < 2 ^ 40) × (now c ≡ triggeredIn (now p) t) × (length (now r) ≡ choiceSize) ⌝ }
     ensures { λ f. ⌜ Started (now (b .entry)) (now (p .entry)) a t f (now (c .exit)) (now (r .exit)) ⌝ }
 {
     let mut k: usize = 0;
@@ -98,8 +98,8 @@ fn move_mark(
     p: &[u32],
     a: Alternative,
     k: u32,
-    c: &mut [u64; 10],
-    r: &mut [u64; 10],
+    c: &mut [u64; 11],
+    r: &mut [u64; 11],
 ) -> bool
     requires { ⌜ (1 ≤ k) × (a .name < 2 ^ 40) × (tokenTime (now r) 0 k ≡ 0 → ⊥) × (nextOf (now b) a k (now c) (now r) .place + 2 * nextOf (now b) a k (now c) (now r) .count < 2 ^ 60) × (nextOf (now b) a k (now c) (now r) .start + 4294967296 * nextOf (now b) a k (now c) (now r) .count < 2 ^ 64) ⌝ }
     ensures { λ f. ⌜ Advanced (now (p .entry)) k (nextOf (now (b .entry)) a k (now (c .entry)) (now (r .entry))) (now (c .entry)) (now (r .entry)) (now (c .exit)) (now (r .exit)) f ⌝ }
@@ -122,7 +122,7 @@ fn move_mark(
     )
 }
 
-// Which name is too early: in every choice it has a later token than the marked one. Number 0 is the trigger, or what no mark moves.
+// Which name is too early: in every choice it has a later token than the marked one. Number 0 is the trigger, or what no mark moves: a time point, the plan's end.
 pub enum Early {
     Name(u32),
     Nobody,
@@ -137,7 +137,7 @@ fn whose(kind: u32, x: u32, n: usize) -> u32
 
 // What two terms at the marks tell, which have to be within bounds: below lower the right one is too early, above upper the left one.
 fn bounds_early(
-    c: &[u64; 10],
+    c: &[u64; 11],
     n: usize,
     i: u32,
     x: u32,
@@ -148,7 +148,7 @@ fn bounds_early(
 ) -> Early
     ensures { λ r. ⌜ Told (now (c .entry)) n r (within i x j y lower upper) ⌝ }
 {
-    if (i > 2) | (j > 2) {
+    if (i > 3) | (j > 3) {
         return Early::Nobody;
     }
     let left = choice::term(c, i, x);
@@ -224,7 +224,7 @@ fn left_needed(set: u32, s: u64, e: u64, s2: u64, e2: u64) -> bool
 }
 
 // What the constraint at a place tells: all relations of its set together.
-fn set_early(b: &[u32], c: &[u64; 10], n: usize, place: usize) -> Early
+fn set_early(b: &[u32], c: &[u64; 11], n: usize, place: usize) -> Early
     requires { ⌜ place < 2 ^ 60 ⌝ }
     ensures { λ r. ⌜ Told (now (c .entry)) n r (askAt 2 (now (b .entry)) place) ⌝ }
 {
@@ -248,7 +248,7 @@ fn set_early(b: &[u32], c: &[u64; 10], n: usize, place: usize) -> Early
 }
 
 // What the ask at a place tells.
-fn ask_early(e: usize, b: &[u32], c: &[u64; 10], n: usize, place: usize) -> Early
+fn ask_early(e: usize, b: &[u32], c: &[u64; 11], n: usize, place: usize) -> Early
     requires { ⌜ place < 2 ^ 60 ⌝ }
     ensures { λ r. ⌜ Told (now (c .entry)) n r (askAt e (now (b .entry)) place) ⌝ }
 {
@@ -265,7 +265,7 @@ fn ask_early(e: usize, b: &[u32], c: &[u64; 10], n: usize, place: usize) -> Earl
 }
 
 // What the first ask of an alternative that tells a name tells.
-fn asks_early(b: &[u32], a: Alternative, c: &[u64; 10]) -> Early
+fn asks_early(b: &[u32], a: Alternative, c: &[u64; 11]) -> Early
     requires { ⌜ a .ask + 8 * a .asks < 2 ^ 60 ⌝ }
     ensures { λ r. ⌜ Told (now (c .entry)) (a .names) r (asksHold (now (b .entry)) a) ⌝ }
 {
@@ -297,8 +297,8 @@ pub fn raise(
     p: &[u32],
     t: Token,
     a: Alternative,
-    c: &mut [u64; 10],
-    r: &mut [u64; 10],
+    c: &mut [u64; 11],
+    r: &mut [u64; 11],
 ) -> Found
     requires { ⌜ (a .ask + 8 * a .asks < 2 ^ 60) × (a .name < 2 ^ 40) × Marked (now b) (now p) a t (a .names) (now c) (now r) ⌝ }
     ensures { λ f. ⌜ Raised (now (b .entry)) (now (p .entry)) a t (now (c .exit)) (now (r .exit)) f ⌝ }

@@ -17,9 +17,10 @@ use Rattle.words.specs.Runs.{run}
 use Rattle.book.specs.Rules.{nameAt, alternativeAt}
 use Rattle.lines.specs.declared.Token.{Token}
 use Rattle.lines.specs.Lines.{lineOf}
+use Rattle.lines.specs.Ends.{planEnd}
 use Rattle.choice.specs.declared.Alternative.{Alternative}
-use Rattle.choice.specs.Met.{Choice, nobody, triggered, put, tokenTime, place, alternativeMet}
-use Rattle.choice.specs.Asked.{places, askHolds, allHold, asksHold, placeable, metAt, alternativeOf}
+use Rattle.choice.specs.Met.{Choice, timePlace, nobody, put, tokenTime, place, alternativeMet}
+use Rattle.choice.specs.Asked.{places, askHolds, allHold, asksHold, placeable, triggeredIn, metAt, alternativeOf}
 use Rattle.choice.specs.Exists.{choiceOf}
 use Rattle.choice.proofs.Exists.{and-both, placed-of, choice-time}
 use Rattle.choice.proofs.Laws.{run-any-step}
@@ -29,7 +30,7 @@ use Rattle.marks.specs.Marked.{Later, Choosing, Marked, Never, Raised}
 use Rattle.marks.proofs.Choices.{choice-trigger, choice-long}
 use Rattle.marks.proofs.Marks.{later-same}
 use Rattle.matching.specs.Search.{Leads}
-use Rattle.matching.specs.Carried.{row, Storing, Keeping, Slot, Going, Carry, Carried, Settled}
+use Rattle.matching.specs.Carried.{rowSize, restsAt, slotSize, row, Storing, Keeping, Slot, Going, Carry, Carried, Settled}
 
 -- ---- words that are stored
 
@@ -55,24 +56,24 @@ storing-next l l' l'' k c i x s h hx =
         strict : (i j : ℕ) → i < j + 1 → (i ≡ j → ⊥) → i < j
         strict i j l ne = omega arith
 
-pub storing-all : (l l' : List ℕ) (k : ℕ) (c : List ℕ) (i : ℕ) → i ≤ 10 → 10 ≤ i → Storing l l' k c i → Storing l l' k c 10
-storing-all l l' k c i h g s = let q : i ≡ 10 = omega arith in rw q at s
+pub storing-all : (l l' : List ℕ) (k : ℕ) (c : List ℕ) (i : ℕ) → i ≤ rowSize → rowSize ≤ i → Storing l l' k c i → Storing l l' k c rowSize
+storing-all l l' k c i h g s = let q : i ≡ rowSize = omega arith in rw q at s
 
 -- rows that agree word by word
-row-same : (l l' : List ℕ) (k : ℕ) → ((j : ℕ) → j < 10 → getD l' (k + j) 0 ≡ getD l (k + j) 0) → getD l' k 0 ≡ getD l k 0 → row l' k ≡ row l k
+row-same : (l l' : List ℕ) (k : ℕ) → ((j : ℕ) → j < rowSize → getD l' (k + j) 0 ≡ getD l (k + j) 0) → getD l' k 0 ≡ getD l k 0 → row l' k ≡ row l k
 row-same l l' k f h =
-    rw (h, f 1 (omega arith), f 2 (omega arith), f 3 (omega arith), f 4 (omega arith), f 5 (omega arith), f 6 (omega arith), f 7 (omega arith), f 8 (omega arith), f 9 (omega arith))
+    rw (h, f 1 (omega arith), f 2 (omega arith), f 3 (omega arith), f 4 (omega arith), f 5 (omega arith), f 6 (omega arith), f 7 (omega arith), f 8 (omega arith), f 9 (omega arith), f 10 (omega arith))
 
-row-is : (l c : List ℕ) (k : ℕ) → length c ≡ 10 → ((j : ℕ) → j < 10 → getD l (k + j) 0 ≡ getD c j 0) → row l k ≡ c
+row-is : (l c : List ℕ) (k : ℕ) → length c ≡ rowSize → ((j : ℕ) → j < rowSize → getD l (k + j) 0 ≡ getD c j 0) → row l k ≡ c
 row-is l c k h f =
-    rw (zeroth, f 1 (omega arith), f 2 (omega arith), f 3 (omega arith), f 4 (omega arith), f 5 (omega arith), f 6 (omega arith), f 7 (omega arith), f 8 (omega arith), f 9 (omega arith))
-    (sym (ten c h))
+    rw (zeroth, f 1 (omega arith), f 2 (omega arith), f 3 (omega arith), f 4 (omega arith), f 5 (omega arith), f 6 (omega arith), f 7 (omega arith), f 8 (omega arith), f 9 (omega arith), f 10 (omega arith))
+    (sym (whole-row c h))
   where
     zeroth : getD l k 0 ≡ getD c 0 0
     zeroth = rw add-zero at (f 0 (omega arith))
 
-    ten : (c : List ℕ) → length c ≡ 10 → c ≡ row c 0
-    ten c h = ext-getD 0 c (row c 0) h at-each
+    whole-row : (c : List ℕ) → length c ≡ rowSize → c ≡ row c 0
+    whole-row c h = ext-getD 0 c (row c 0) h at-each
       where
         at-each : (i : ℕ) → i < length c → getD c i 0 ≡ getD (row c 0) i 0
         at-each zero l = refl
@@ -85,7 +86,8 @@ row-is l c k h f =
         at-each (suc (suc (suc (suc (suc (suc (suc zero))))))) l = refl
         at-each (suc (suc (suc (suc (suc (suc (suc (suc zero)))))))) l = refl
         at-each (suc (suc (suc (suc (suc (suc (suc (suc (suc zero))))))))) l = refl
-        at-each (suc (suc (suc (suc (suc (suc (suc (suc (suc (suc i)))))))))) l = absurd (omega arith)
+        at-each (suc (suc (suc (suc (suc (suc (suc (suc (suc (suc zero)))))))))) l = refl
+        at-each (suc (suc (suc (suc (suc (suc (suc (suc (suc (suc (suc i))))))))))) l = absurd (omega arith)
 
 pub slot-none : (l : List ℕ) (slot : ℕ) → Slot l l slot
 slot-none l slot = record { long = refl; low = λ x h. refl; high = λ x h. refl }
@@ -146,7 +148,7 @@ module _ (b p : List ℕ) (a : Alternative) where
         four = k .four;
         is =
             h ∙ ap (λ (z : Choice). put z 0 (t .start .tick) (t .end .tick)) (h1 ∙ k .is)
-            ∙ choice-trigger (g .old) t (k .heads) (omega (arith, k .size, k .four));
+            ∙ choice-trigger (planEnd (lineOf p)) (g .old) t (k .heads) (omega (arith, k .size, k .four));
         long = k .long;
         each =
             λ j l. let m = k .each j l in
@@ -164,22 +166,22 @@ module _ (b p : List ℕ) (a : Alternative) where
       })
 
   -- other words of the list are changed
-  carry-other : (t : Token) (l l' : List ℕ) (slot other : ℕ) → Slot l l' other → (slot + 21 ≤ other) ⊎ (other + 21 ≤ slot) → Carry b p a t l slot
+  carry-other : (t : Token) (l l' : List ℕ) (slot other : ℕ) → Slot l l' other → (slot + slotSize ≤ other) ⊎ (other + slotSize ≤ slot) → Carry b p a t l slot
       → Carry b p a t l' slot
   carry-other t l l' slot other s apart k =
       record {
-        going = λ h. rw (rows (slot + 1) (omega arith) (omega arith), rows (slot + 11) (omega arith) (omega arith)) (k .going (sym (same slot (omega arith) (omega arith)) ∙ h));
+        going = λ h. rw (rows (slot + 1) (omega arith) (omega arith), rows (slot + restsAt) (omega arith) (omega arith)) (k .going (sym (same slot (omega arith) (omega arith)) ∙ h));
         dead = λ h. k .dead (sym (same slot (omega arith) (omega arith)) ∙ h);
       }
     where
-      same : (x : ℕ) → slot ≤ x → x < slot + 21 → getD l' x 0 ≡ getD l x 0
+      same : (x : ℕ) → slot ≤ x → x < slot + slotSize → getD l' x 0 ≡ getD l x 0
       same x f g = ⊎-elim (λ z. s .low x (omega arith)) (λ z. s .high x (omega arith)) apart
 
-      rows : (k : ℕ) → slot ≤ k → k + 10 ≤ slot + 21 → row l' k ≡ row l k
+      rows : (k : ℕ) → slot ≤ k → k + rowSize ≤ slot + slotSize → row l' k ≡ row l k
       rows k f g = row-same l l' k (λ j h. same (k + j) (omega arith) (omega arith)) (same k (omega arith) (omega arith))
 
   -- marks are kept
-  pub kept-carry : (t : Token) (l l' : List ℕ) (slot : ℕ) (c r : Choice) → (slot < length l → slot + 21 ≤ length l) → Keeping l l' slot c r
+  pub kept-carry : (t : Token) (l l' : List ℕ) (slot : ℕ) (c r : Choice) → (slot < length l → slot + slotSize ≤ length l) → Keeping l l' slot c r
       → Marked b p a t (a .names) c r → Carry b p a t l' slot
   kept-carry t l l' slot c r fits s k = go (ltb slot (length l)) refl
     where
@@ -189,11 +191,11 @@ module _ (b p : List ℕ) (a : Alternative) where
       go : (z : Bool) → ltb slot (length l) ≡ z → Carry b p a t l' slot
       go false q = carry-fresh t l' slot (List·getD-eq-default l' 0 {n = slot} (omega (arith, s .second .long, s .first .long, length-one, ltb-false slot (length l) q)))
       go true q =
-          let room : slot + 21 ≤ length l = fits (ltb-true slot (length l) q) in
+          let room : slot + slotSize ≤ length l = fits (ltb-true slot (length l) q) in
           let state : getD l' slot 0 ≡ 1 = s .second .low slot (omega arith) ∙ s .first .low slot (omega arith) ∙ rw (s .state) (getD-set-same l slot 1 0 (omega arith)) in
           let times : row l' (slot + 1) ≡ c =
-          row-is l' c (slot + 1) (ap length (k .is) ∙ choice-long t (k .heads) (omega (arith, k .size, k .four))) (λ j f. s .second .low (slot + 1 + j) (omega arith) ∙ s .first .here j f (omega (arith, length-one, room))) in
-          let rests : row l' (slot + 11) ≡ r = row-is l' r (slot + 11) (k .long) (λ j f. s .second .here j f (omega (arith, length-one, s .first .long, room))) in
+          row-is l' c (slot + 1) (ap length (k .is) ∙ choice-long (planEnd (lineOf p)) t (k .heads) (omega (arith, k .size, k .four))) (λ j f. s .second .low (slot + 1 + j) (omega arith) ∙ s .first .here j f (omega (arith, length-one, room))) in
+          let rests : row l' (slot + restsAt) ≡ r = row-is l' r (slot + restsAt) (k .long) (λ j f. s .second .here j f (omega (arith, length-one, s .first .long, room))) in
           record {
             going = λ _. rw (times, rests) (record { old = t; later = later-same t; marked = k });
             dead = λ h. absurd (omega (arith, state, h));
@@ -223,14 +225,14 @@ module _ (b p : List ℕ) (a : Alternative) where
   -- ---- what is settled
 
   -- no choice
-  pub none-placed : (t : Token) → ((ts : List Token) → Choosing b p a t ts → ⊥) → placeable b p a (a .names) 0 (triggered t) ≡ false
+  pub none-placed : (t : Token) → ((ts : List Token) → Choosing b p a t ts → ⊥) → placeable b p a (a .names) 0 (triggeredIn p t) ≡ false
   unfolding placeable
-  none-placed t f = rw (zero-mul 2, add-zero (a .name)) (go (place (lineOf p) (asksHold b a) (run (nameAt b) 2 (a .names) (a .name)) 1 (triggered t)) refl)
+  none-placed t f = rw (zero-mul 2, add-zero (a .name)) (go (place (lineOf p) (asksHold b a) (run (nameAt b) 2 (a .names) (a .name)) 1 (triggeredIn p t)) refl)
     where
-      go : (z : Bool) → place (lineOf p) (asksHold b a) (run (nameAt b) 2 (a .names) (a .name)) 1 (triggered t) ≡ z
-          → place (lineOf p) (asksHold b a) (run (nameAt b) 2 (a .names) (a .name)) 1 (triggered t) ≡ false
+      go : (z : Bool) → place (lineOf p) (asksHold b a) (run (nameAt b) 2 (a .names) (a .name)) 1 (triggeredIn p t) ≡ z
+          → place (lineOf p) (asksHold b a) (run (nameAt b) 2 (a .names) (a .name)) 1 (triggeredIn p t) ≡ false
       go false h = h
-      go true h = let q = placed-of (lineOf p) (asksHold b a) (run (nameAt b) 2 (a .names) (a .name)) 1 (triggered t) h in absurd (f (q .0) (q .1))
+      go true h = let q = placed-of (lineOf p) (asksHold b a) (run (nameAt b) 2 (a .names) (a .name)) 1 (triggeredIn p t) h in absurd (f (q .0) (q .1))
 
   pub settled-now : (t : Token) (c r : Choice) → ((ts : List Token) → Choosing b p a t ts → ⊥) → Settled b p a t false c r
   settled-now t c r f = record { none = λ _. none-placed t f; some = λ h. absurd (false≢true h) }
@@ -249,30 +251,30 @@ module _ (b p : List ℕ) (a : Alternative) where
             };
       }
     where
-      start : (j : ℕ) → tokenTime (choiceOf t (k .heads)) 0 (j + 1) ≡ getD (k .heads) j nobody .start .tick
-      start j = choice-time t (k .heads) (j + 1) (omega (arith, k .size, k .four)) .0 ∙ ap (λ (z : ℕ). getD (t ∷ k .heads) z nobody .start .tick) (add-one j)
+      start : (j : ℕ) → tokenTime (choiceOf (planEnd (lineOf p)) t (k .heads)) 0 (j + 1) ≡ getD (k .heads) j nobody .start .tick
+      start j = choice-time (planEnd (lineOf p)) t (k .heads) (j + 1) (omega (arith, k .size, k .four)) .0 ∙ ap (λ (z : ℕ). getD (t ∷ k .heads) z nobody .start .tick) (add-one j)
 
   -- no name has a mark
   pub settled-bare : (t : Token) (c r : Choice) → zeros r ≡ true → Settled b p a t true c r
   unfolding tokenTime
   settled-bare t c r f =
-      record { none = λ h. absurd (false≢true (sym h)); some = λ _. record { each = λ j l h. absurd (h (all-zero r f (2 * (j + 1) + 0))) } }
+      record { none = λ h. absurd (false≢true (sym h)); some = λ _. record { each = λ j l h. absurd (h (all-zero r f (timePlace 0 (j + 1)))) } }
 
 -- ---- the slots of all alternatives
 
--- 64 slots of 21 words
-pub slot-fits : (n left slot size : ℕ) → slot + 21 * left ≡ 21 * n → size ≡ 1344 → slot < size → slot + 21 ≤ size
+-- 64 slots
+pub slot-fits : (n left slot size : ℕ) → slot + slotSize * left ≡ slotSize * n → size ≡ 64 * slotSize → slot < size → slot + slotSize ≤ size
 slot-fits n left slot size h g l = omega arith
 
 module _ (e : ℕ) (b p : List ℕ) (t : Token) where
-  pub carried-fresh : (n base : ℕ) (l : List ℕ) → length l ≡ 1344 → zeros l ≡ true → Carried e b p t n base l
-  carried-fresh n base l h z = record { long = h; each = λ i g. carry-fresh b p _ t l (21 * i) (all-zero l z (21 * i)) }
+  pub carried-fresh : (n base : ℕ) (l : List ℕ) → length l ≡ 64 * slotSize → zeros l ≡ true → Carried e b p t n base l
+  carried-fresh n base l h z = record { long = h; each = λ i g. carry-fresh b p _ t l (slotSize * i) (all-zero l z (slotSize * i)) }
 
   pub carried-later : (u : Token) (n base : ℕ) (l : List ℕ) → Later t u → Carried e b p t n base l → Carried e b p u n base l
-  carried-later u n base l f k = record { long = k .long; each = λ i g. carry-later b p _ t u l (21 * i) f (k .each i g) }
+  carried-later u n base l f k = record { long = k .long; each = λ i g. carry-later b p _ t u l (slotSize * i) f (k .each i g) }
 
   module _ (n base left at slot : ℕ) (l : List ℕ) (a : Alternative) (k : Carried e b p t n base l) (some : left ≡ 0 → ⊥) (le : left ≤ n)
-      (hat : at + 4 * left ≡ base + 4 * n) (hslot : slot + 21 * left ≡ 21 * n) (ha : a ≡ alternativeOf e b at) where
+      (hat : at + 4 * left ≡ base + 4 * n) (hslot : slot + slotSize * left ≡ slotSize * n) (ha : a ≡ alternativeOf e b at) where
     carry-moved : (at at' : ℕ) (l : List ℕ) (slot slot' : ℕ) → at' ≡ at → slot' ≡ slot → Carry b p (alternativeOf e b at) t l slot → Carry b p (alternativeOf e b at') t l slot'
     carry-moved at at' l slot slot' h g k = rw (h, g) k
 
@@ -280,27 +282,27 @@ module _ (e : ℕ) (b p : List ℕ) (t : Token) where
     number = omega arith
 
     pub carried-at : Carry b p a t l slot
-    carried-at = rw ha (carry-moved (base + 4 * (n - left)) at l (21 * (n - left)) slot (omega arith) (omega arith) (k .each (n - left) number))
+    carried-at = rw ha (carry-moved (base + 4 * (n - left)) at l (slotSize * (n - left)) slot (omega arith) (omega arith) (k .each (n - left) number))
 
     pub carried-next : (l' : List ℕ) → Carry b p a t l' slot → Slot l l' slot → Carried e b p t n base l'
     carried-next l' c s = record { long = s .long ∙ k .long; each = λ j h. each j h (ltb j (n - left)) refl (ltb (n - left) j) refl }
       where
-        each : (j : ℕ) → j < n → (x : Bool) → ltb j (n - left) ≡ x → (y : Bool) → ltb (n - left) j ≡ y → Carry b p (alternativeOf e b (base + 4 * j)) t l' (21 * j)
-        each j h true q y r = let f = ltb-true j (n - left) q in carry-other b p _ t l l' (21 * j) slot s (inl (omega arith)) (k .each j h)
-        each j h false q true r = let f = ltb-true (n - left) j r in carry-other b p _ t l l' (21 * j) slot s (inr (omega arith)) (k .each j h)
+        each : (j : ℕ) → j < n → (x : Bool) → ltb j (n - left) ≡ x → (y : Bool) → ltb (n - left) j ≡ y → Carry b p (alternativeOf e b (base + 4 * j)) t l' (slotSize * j)
+        each j h true q y r = let f = ltb-true j (n - left) q in carry-other b p _ t l l' (slotSize * j) slot s (inl (omega arith)) (k .each j h)
+        each j h false q true r = let f = ltb-true (n - left) j r in carry-other b p _ t l l' (slotSize * j) slot s (inr (omega arith)) (k .each j h)
         each j h false q false r =
             let f = ltb-false j (n - left) q in
             let g = ltb-false (n - left) j r in
-            carry-moved at (base + 4 * j) l' slot (21 * j) (omega arith) (omega arith) (rw ha at c)
+            carry-moved at (base + 4 * j) l' slot (slotSize * j) (omega arith) (omega arith) (rw ha at c)
 
   -- ---- the alternatives
 
   -- the alternative at a place is met
   unfoldable pub metHere : ℕ → Bool
-  metHere at = alternativeMet (askHolds e b) (lineOf p) (triggered t) (alternativeAt (places e) b at)
+  metHere at = alternativeMet (askHolds e b) (lineOf p) (triggeredIn p t) (alternativeAt (places e) b at)
 
   -- placing its names decides
-  pub alt-placed : (at : ℕ) (a : Alternative) (c : Choice) → a ≡ alternativeOf e b at → c ≡ triggered t → metHere at ≡ placeable b p a (a .names) 0 c
+  pub alt-placed : (at : ℕ) (a : Alternative) (c : Choice) → a ≡ alternativeOf e b at → c ≡ triggeredIn p t → metHere at ≡ placeable b p a (a .names) 0 c
   unfolding metHere alternativeMet alternativeAt placeable asksHold allHold
   alt-placed at a c h same =
       rw (same, h, zero-mul 2, add-zero (alternativeOf e b at .name))
@@ -311,4 +313,4 @@ module _ (e : ℕ) (b p : List ℕ) (t : Token) where
 
   pub alt-step : (n at : ℕ) (r : Bool) → (n ≡ 0 → ⊥) → metHere at ≡ r → metAt e b p t n at ≡ (r || metAt e b p t (n - 1) (at + 4))
   unfolding metAt metHere
-  alt-step n at r h q = run-any-step (alternativeMet (askHolds e b) (lineOf p) (triggered t)) (alternativeAt (places e) b) 4 n at r h (sym q)
+  alt-step n at r h q = run-any-step (alternativeMet (askHolds e b) (lineOf p) (triggeredIn p t)) (alternativeAt (places e) b) 4 n at r h (sym q)

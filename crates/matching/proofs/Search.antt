@@ -18,11 +18,12 @@ use Rattle.words.specs.Runs.{run, length-run, run-at}
 use Rattle.book.specs.Rules.{nameAt}
 use Rattle.lines.specs.declared.Token.{Token}
 use Rattle.lines.specs.Lines.{token, tokensFrom, lineOf}
+use Rattle.lines.specs.Ends.{planEnd}
 use Rattle.choice.specs.declared.Alternative.{Alternative}
 use Rattle.choice.specs.declared.Tokens.{Tokens}
 use Rattle.choice.specs.Met.{Choice, nobody, triggered, put, tokenTime, place}
 use Rattle.choice.specs.Exists.{Among, Serves, Placed, noName, chosen, choiceOf}
-use Rattle.choice.specs.Asked.{asksHold, placeable, holdSoFar, tokensOf}
+use Rattle.choice.specs.Asked.{asksHold, placeable, triggeredIn, holdSoFar, tokensOf}
 use Rattle.choice.proofs.Exists.{and-both, any-some, some-any, placed-of, of-placed}
 use Rattle.choice.proofs.SoFar.{so-far-all, so-far-fails}
 use Rattle.marks.specs.Marked.{Choosing, Source}
@@ -43,6 +44,10 @@ chosen-append c k [] ys = ap (λ (z : ℕ). chosen c z ys) (sym (add-zero k))
 chosen-append c k (x ∷ xs) ys =
     chosen-append (put c k (x .start .tick) (x .end .tick)) (k + 1) xs ys
     ∙ ap (λ (z : ℕ). chosen (chosen (put c k (x .start .tick) (x .end .tick)) (k + 1) xs) z ys) (omega arith)
+
+-- the trigger alone, in a plan that ends at `last`
+pub trigger-in : (p : List ℕ) (t : Token) (last : ℕ) (c : Choice) → last ≡ planEnd (lineOf p) → c ≡ triggered last t → c ≡ triggeredIn p t
+trigger-in p t last c h e = e ∙ ap (λ (z : ℕ). triggered z t) h
 
 -- the tokens after the first, which is d long
 abbrev pub after : Tokens → ℕ → Tokens
@@ -96,7 +101,7 @@ module _ (b p : List ℕ) (a : Alternative) where
   module _ (t : Token) where
     -- ---- the tokens given so far
 
-    pub begun-none : (c : Choice) → c ≡ triggered t → Begun b p a t 0 c
+    pub begun-none : (c : Choice) → c ≡ triggeredIn p t → Begun b p a t 0 c
     unfolding choiceOf chosen
     begun-none c h = record { tokens = []; size = refl; serve = λ i l. absurd (omega arith); is = h }
 
@@ -109,7 +114,7 @@ module _ (b p : List ℕ) (a : Alternative) where
           tokens = f .tokens ++ (x ∷ []);
           size = simp length-append (omega (arith, f .size));
           serve = λ i l. serve i l (ltb i j) refl;
-          is = rw (f .is) (sym (chosen-append (triggered t) 1 (f .tokens) (x ∷ []) ∙ ap (λ (z : ℕ). put (chosen (triggered t) 1 (f .tokens)) z (x .start .tick) (x .end .tick)) (omega (arith, f .size))));
+          is = rw (f .is) (sym (chosen-append (triggeredIn p t) 1 (f .tokens) (x ∷ []) ∙ ap (λ (z : ℕ). put (chosen (triggeredIn p t) 1 (f .tokens)) z (x .start .tick) (x .end .tick)) (omega (arith, f .size))));
         }
       where
         serve : (i : ℕ) → i < j + 1 → (z : Bool) → ltb i j ≡ z → Serves (lineOf p) (nameAt b (a .name + i * 2)) (getD (f .tokens ++ (x ∷ [])) i nobody)
@@ -145,7 +150,7 @@ module _ (b p : List ℕ) (a : Alternative) where
           record {
             each = simp (length-append, length-run) (omega (arith, f .size, q .each, length-run (nameAt b) 2 m (a .name + (j + 1) * 2)));
             serve = λ i l. rw (run-at (nameAt b) 2 (a .names) (a .name) i noName (omega (arith, length-run (nameAt b) 2 (a .names) (a .name)))) (serve i (omega (arith, length-run (nameAt b) 2 (a .names) (a .name))) (ltb i j) refl (eqb i j) refl);
-            pass = rw (chosen-append (triggered t) 1 (f .tokens) (x ∷ ts), ← f .is, place-of) (q .pass);
+            pass = rw (chosen-append (triggeredIn p t) 1 (f .tokens) (x ∷ ts), ← f .is, place-of) (q .pass);
           }
         where
           place-of : 1 + length (f .tokens) ≡ j + 1

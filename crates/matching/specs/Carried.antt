@@ -6,12 +6,22 @@ use Prim.Native.Nat.{ℕ, _+_, _*_, _≤_, _<_}
 use lib.ListN.{length, getD, set}
 use Rattle.lines.specs.declared.Token.{Token}
 use Rattle.choice.specs.declared.Alternative.{Alternative}
-use Rattle.choice.specs.Met.{Choice, triggered}
-use Rattle.choice.specs.Asked.{placeable, alternativeOf}
+use Rattle.choice.specs.Met.{Choice, choiceSize}
+use Rattle.choice.specs.Asked.{placeable, triggeredIn, alternativeOf}
 use Rattle.marks.specs.Marked.{Later, Marked, Never}
 use Rattle.matching.specs.Search.{Leads}
 
--- ten words from a place on
+-- how many words the marks' times have, and their rests; a slot has both, behind a word that says what they are
+abbrev pub rowSize : ℕ
+rowSize = choiceSize
+
+abbrev pub restsAt : ℕ
+restsAt = 1 + rowSize
+
+abbrev pub slotSize : ℕ
+slotSize = 1 + 2 * rowSize
+
+-- a choice from a place on
 abbrev pub row : List ℕ → ℕ → List ℕ
 row l k =
     getD l k 0
@@ -24,9 +34,10 @@ row l k =
     ∷ getD l (k + 7) 0
     ∷ getD l (k + 8) 0
     ∷ getD l (k + 9) 0
+    ∷ getD l (k + 10) 0
     ∷ []
 
--- the first i of ten words of c are stored from a place on
+-- the first i words of c are stored from a place on
 pub record Storing (l l' : List ℕ) (k : ℕ) (c : List ℕ) (i : ℕ) : Type 0 where
   pub long : length l' ≡ length l
   pub low : (x : ℕ) → x < k → getD l' x 0 ≡ getD l x 0
@@ -38,14 +49,14 @@ pub record Keeping (l l' : List ℕ) (slot : ℕ) (times rests : Choice) : Type 
   pub one : List ℕ
   pub two : List ℕ
   pub state : one ≡ set l slot 1
-  pub first : Storing one two (slot + 1) times 10
-  pub second : Storing two l' (slot + 11) rests 10
+  pub first : Storing one two (slot + 1) times rowSize
+  pub second : Storing two l' (slot + restsAt) rests rowSize
 
--- no word outside the 21 of a slot is changed
+-- no word outside a slot is changed
 pub record Slot (l l' : List ℕ) (slot : ℕ) : Type 0 where
   pub long : length l' ≡ length l
   pub low : (x : ℕ) → x < slot → getD l' x 0 ≡ getD l x 0
-  pub high : (x : ℕ) → slot + 21 ≤ x → getD l' x 0 ≡ getD l x 0
+  pub high : (x : ℕ) → slot + slotSize ≤ x → getD l' x 0 ≡ getD l x 0
 
 -- times and rests are marks, of a trigger token that isn't later than t
 pub record Going (b p : List ℕ) (a : Alternative) (t : Token) (times rests : Choice) : Type 0 where
@@ -53,17 +64,17 @@ pub record Going (b p : List ℕ) (a : Alternative) (t : Token) (times rests : C
   pub later : Later old t
   pub marked : Marked b p a old (a .names) times rests
 
--- the 21 words of a slot: 1 with marks behind it, 2 if there is no choice any more, else nothing is said
+-- the words of a slot: 1 with marks behind it, 2 if there is no choice any more, else nothing is said
 pub record Carry (b p : List ℕ) (a : Alternative) (t : Token) (l : List ℕ) (slot : ℕ) : Type 0 where
-  pub going : getD l slot 0 ≡ 1 → Going b p a t (row l (slot + 1)) (row l (slot + 11))
+  pub going : getD l slot 0 ≡ 1 → Going b p a t (row l (slot + 1)) (row l (slot + restsAt))
   pub dead : getD l slot 0 ≡ 2 → Never b p a t
 
 -- the slots of n alternatives from a place on; there are 64
 pub record Carried (e : ℕ) (b p : List ℕ) (t : Token) (n at : ℕ) (l : List ℕ) : Type 0 where
-  pub long : length l ≡ 1344
-  pub each : (i : ℕ) → i < n → Carry b p (alternativeOf e b (at + 4 * i)) t l (21 * i)
+  pub long : length l ≡ 64 * slotSize
+  pub each : (i : ℕ) → i < n → Carry b p (alternativeOf e b (at + 4 * i)) t l (slotSize * i)
 
 -- what is settled by raising: no choice for t, or marks to search from
 pub record Settled (b p : List ℕ) (a : Alternative) (t : Token) (f : Bool) (times rests : Choice) : Type 0 where
-  pub none : f ≡ false → placeable b p a (a .names) 0 (triggered t) ≡ false
+  pub none : f ≡ false → placeable b p a (a .names) 0 (triggeredIn p t) ≡ false
   pub some : f ≡ true → Leads b p a t times rests

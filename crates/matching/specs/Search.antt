@@ -10,6 +10,7 @@ use Rattle.words.specs.Lists.{any}
 use Rattle.book.specs.Rules.{nameAt}
 use Rattle.lines.specs.declared.Token.{Token}
 use Rattle.lines.specs.Lines.{tokensFrom, lineOf}
+use Rattle.lines.specs.Ends.{planEnd}
 use Rattle.choice.specs.declared.Alternative.{Alternative}
 use Rattle.choice.specs.declared.Tokens.{Tokens}
 use Rattle.choice.specs.Met.{Choice, nobody, put, tokenTime}
@@ -35,7 +36,7 @@ pub record Begun (b p : List ℕ) (a : Alternative) (t : Token) (j : ℕ) (c : C
   pub tokens : List Token
   pub size : length tokens ≡ j
   pub serve : (i : ℕ) → i < j → Serves (lineOf p) (nameAt b (a .name + i * 2)) (getD tokens i nobody)
-  pub is : c ≡ choiceOf t tokens
+  pub is : c ≡ choiceOf (planEnd (lineOf p)) t tokens
 
 -- some tokens of the line of the name after the first j, for its value; no sum wraps
 pub record Along (b p : List ℕ) (a : Alternative) (j : ℕ) (w : Tokens) : Type 0 where

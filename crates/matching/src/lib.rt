@@ -4,11 +4,13 @@ ghost use mathlib.Core.Bool.{true, false};
 ghost use Prim.Native.Nat.{_+_, _*_, _<_, _≤_, _^_};
 ghost use lib.ListN.{length};
 ghost use Rattle.layout.specs.Layout.{offset};
-ghost use Rattle.choice.specs.Met.{triggered, put};
+ghost use Rattle.lines.specs.Lines.{lineOf};
+ghost use Rattle.lines.specs.Ends.{planEnd};
+ghost use Rattle.choice.specs.Met.{put};
 ghost use Rattle.choice.specs.Asked.{placeable, metAt};
 ghost use Rattle.marks.specs.Marked.{Marked, Source};
 ghost use Rattle.matching.specs.Search.{tokenFor, Leads, Begun, Along};
-ghost use Rattle.matching.specs.Carried.{row, Storing, Keeping, Slot, Carry, Settled, Carried};
+ghost use Rattle.matching.specs.Carried.{rowSize, slotSize, row, Storing, Keeping, Slot, Carry, Settled, Carried};
 use choice::Alternative;
 use choice::Tokens;
 use choice::put;
@@ -28,8 +30,8 @@ fn tokens_left(
     t: Token,
     a: Alternative,
     j: usize,
-    times: &[u64; 10],
-    rests: &[u64; 10],
+    times: &[u64; 11],
+    rests: &[u64; 11],
 ) -> Tokens
     requires { ⌜ (j < a .names) × (a .names < 2 ^ 32) × (a .name < 2 ^ 40) × Leads (now b) (now p) a t (now times) (now rests) ⌝ }
     ensures { λ r. ⌜ Along (now (b .entry)) (now (p .entry)) a j r × Source (now (b .entry)) (now (p .entry)) a t j (r .count) (r .place) (r .start) ⌝ }
@@ -58,9 +60,9 @@ fn place(
     p: &[u32],
     t: Token,
     a: Alternative,
-    c: [u64; 10],
-    times: &[u64; 10],
-    rests: &[u64; 10],
+    c: [u64; 11],
+    times: &[u64; 11],
+    rests: &[u64; 11],
 ) -> bool
     requires { ⌜ (j + n ≡ a .names) × (a .names < 2 ^ 32) × (a .name < 2 ^ 40) × (a .ask + 8 * a .asks < 2 ^ 60) × Begun (now b) (now p) a t j c × Leads (now b) (now p) a t (now times) (now rests) ⌝ }
     ensures { λ r. ⌜ r ≡ placeable (now (b .entry)) (now (p .entry)) a n j c ⌝ }
@@ -84,9 +86,9 @@ fn try_tokens(
     p: &[u32],
     t: Token,
     a: Alternative,
-    c: [u64; 10],
-    times: &[u64; 10],
-    rests: &[u64; 10],
+    c: [u64; 11],
+    times: &[u64; 11],
+    rests: &[u64; 11],
 ) -> bool
     requires { ⌜ (j + n + 1 ≡ a .names) × (a .names < 2 ^ 32) × (a .name < 2 ^ 40) × (a .ask + 8 * a .asks < 2 ^ 60) × Along (now b) (now p) a j w × Begun (now b) (now p) a t j c × Leads (now b) (now p) a t (now times) (now rests) ⌝ }
     ensures { λ r. ⌜ r ≡ tokenFor (now (b .entry)) (now (p .entry)) a n j c w ⌝ }
@@ -119,9 +121,9 @@ fn try_token(
     p: &[u32],
     t: Token,
     a: Alternative,
-    c: [u64; 10],
-    times: &[u64; 10],
-    rests: &[u64; 10],
+    c: [u64; 11],
+    times: &[u64; 11],
+    rests: &[u64; 11],
 ) -> bool
     requires { ⌜ (j + n + 1 ≡ a .names) × (a .names < 2 ^ 32) × (a .name < 2 ^ 40) × (a .ask + 8 * a .asks < 2 ^ 60) × Begun (now b) (now p) a t (j + 1) (put c (j + 1) start end) × Leads (now b) (now p) a t (now times) (now rests) ⌝ }
     ensures { λ r. ⌜ r ≡ placeable (now (b .entry)) (now (p .entry)) a n (j + 1) (put c (j + 1) start end) ⌝ }
@@ -131,8 +133,8 @@ fn try_token(
     place(n, j + 1, b, p, t, a, d, times, rests)
 }
 
-// Ten words from a place on.
-fn load(m: &[u64], k: usize) -> [u64; 10]
+// Eleven words from a place on: a choice.
+fn load(m: &[u64], k: usize) -> [u64; 11]
     requires { ⌜ k < 2 ^ 60 ⌝ }
     ensures { λ r. ⌜ r ≡ row (now (m .entry)) k ⌝ }
 {
@@ -146,29 +148,30 @@ fn load(m: &[u64], k: usize) -> [u64; 10]
     let h = time_at(m, k + 7, 0);
     let i = time_at(m, k + 8, 0);
     let j = time_at(m, k + 9, 0);
-    [a, b, c, d, e, f, g, h, i, j]
+    let l = time_at(m, k + 10, 0);
+    [a, b, c, d, e, f, g, h, i, j, l]
 }
 
-// Stores ten words from a place on.
-fn store(m: &mut [u64], k: usize, c: &[u64; 10])
+// Stores eleven words from a place on.
+fn store(m: &mut [u64], k: usize, c: &[u64; 11])
     requires { ⌜ k < 2 ^ 60 ⌝ }
-    ensures { λ _. ⌜ Storing (now (m .entry)) (now (m .exit)) k (now (c .entry)) 10 ⌝ }
+    ensures { λ _. ⌜ Storing (now (m .entry)) (now (m .exit)) k (now (c .entry)) rowSize ⌝ }
 {
     let mut i: usize = 0;
-    while i < 10 {
+    while i < 11 {
         set_time(m, k + i, time_at(c, i, 0));
         i += 1;
     }
 }
 
 // Stores in a slot where the marks are.
-fn keep(kept: &mut [u64], slot: usize, times: &[u64; 10], rests: &[u64; 10])
+fn keep(kept: &mut [u64], slot: usize, times: &[u64; 11], rests: &[u64; 11])
     requires { ⌜ slot < 2 ^ 50 ⌝ }
     ensures { λ _. ⌜ Keeping (now (kept .entry)) (now (kept .exit)) slot (now (times .entry)) (now (rests .entry)) ⌝ }
 {
     set_time(kept, slot, 1);
     store(kept, slot + 1, times);
-    store(kept, slot + 11, rests);
+    store(kept, slot + 12, rests);
 }
 
 // Raises marks and keeps them: whether there may be a choice.
@@ -177,12 +180,12 @@ fn carry_on(
     p: &[u32],
     t: Token,
     a: Alternative,
-    times: &mut [u64; 10],
-    rests: &mut [u64; 10],
+    times: &mut [u64; 11],
+    rests: &mut [u64; 11],
     kept: &mut [u64],
     slot: usize,
 ) -> bool
-    requires { ⌜ (a .name < 2 ^ 40) × (a .ask < 2 ^ 40) × (a .asks < 2 ^ 32) × (slot < 2 ^ 50) × (slot < length (now kept) → slot + 21 ≤ length (now kept)) × Marked (now b) (now p) a t (a .names) (now times) (now rests) ⌝ }
+    requires { ⌜ (a .name < 2 ^ 40) × (a .ask < 2 ^ 40) × (a .asks < 2 ^ 32) × (slot < 2 ^ 50) × (slot < length (now kept) → slot + slotSize ≤ length (now kept)) × Marked (now b) (now p) a t (a .names) (now times) (now rests) ⌝ }
     ensures { λ f. ⌜ Settled (now (b .entry)) (now (p .entry)) a t f (now (times .exit)) (now (rests .exit)) × Carry (now (b .entry)) (now (p .entry)) a t (now (kept .exit)) slot × Slot (now (kept .entry)) (now (kept .exit)) slot ⌝ }
 {
     let f = marks::raise(b, p, t, a, times, rests);
@@ -205,17 +208,25 @@ fn carry_on(
 // Whether an alternative may have a choice, and marks from which it is to be searched.
 pub struct Lead {
     pub open: bool,
-    pub times: [u64; 10],
-    pub rests: [u64; 10],
+    pub times: [u64; 11],
+    pub rests: [u64; 11],
 }
 
 // Raises the marks of an alternative for the trigger token t: those kept from the trigger tokens before it, or new ones.
-fn settle(b: &[u32], p: &[u32], t: Token, a: Alternative, kept: &mut [u64], slot: usize) -> Lead
-    requires { ⌜ (a .name < 2 ^ 40) × (a .ask < 2 ^ 40) × (a .asks < 2 ^ 32) × (slot < 2 ^ 50) × (slot < length (now kept) → slot + 21 ≤ length (now kept)) × Carry (now b) (now p) a t (now kept) slot ⌝ }
+fn settle(
+    b: &[u32],
+    p: &[u32],
+    last: u64,
+    t: Token,
+    a: Alternative,
+    kept: &mut [u64],
+    slot: usize,
+) -> Lead
+    requires { ⌜ (a .name < 2 ^ 40) × (a .ask < 2 ^ 40) × (a .asks < 2 ^ 32) × (slot < 2 ^ 50) × (slot < length (now kept) → slot + slotSize ≤ length (now kept)) × Carry (now b) (now p) a t (now kept) slot × (last ≡ planEnd (lineOf (now p))) ⌝ }
     ensures { λ r. ⌜ Settled (now (b .entry)) (now (p .entry)) a t (r .open) (r .times) (r .rests) × Carry (now (b .entry)) (now (p .entry)) a t (now (kept .exit)) slot × Slot (now (kept .entry)) (now (kept .exit)) slot ⌝ }
 {
-    let mut times = triggered(t);
-    let mut rests = [0u64; 10];
+    let mut times = triggered(last, t);
+    let mut rests = [0u64; 11];
     if a.names > 4 {
         return Lead {
             open: true,
@@ -233,7 +244,7 @@ fn settle(b: &[u32], p: &[u32], t: Token, a: Alternative, kept: &mut [u64], slot
     }
     if state == 1 {
         let mut held = load(kept, slot + 1);
-        let mut left = load(kept, slot + 11);
+        let mut left = load(kept, slot + 12);
         let start = t.start;
         let end = t.end;
         put(&mut held, 0, start.tick, end.tick);
@@ -257,9 +268,18 @@ fn settle(b: &[u32], p: &[u32], t: Token, a: Alternative, kept: &mut [u64], slot
 }
 
 // Whether one of the n alternatives from number `first` on is met for the trigger token t: the first alternative and assignment found
-// settles it. `kept` has the marks of the trigger tokens before t, 21 words for each alternative.
-pub fn met(e: usize, b: &[u32], p: &[u32], first: u32, n: u32, t: Token, kept: &mut [u64]) -> bool
-    requires { ⌜ Carried e (now b) (now p) t n (offset (now b) 3 + 4 * first) (now kept) ⌝ }
+// settles it. The plan ends at `last`. `kept` has the marks of the trigger tokens before t, 23 words for each alternative.
+pub fn met(
+    e: usize,
+    b: &[u32],
+    p: &[u32],
+    first: u32,
+    n: u32,
+    last: u64,
+    t: Token,
+    kept: &mut [u64],
+) -> bool
+    requires { ⌜ (last ≡ planEnd (lineOf (now p))) × Carried e (now b) (now p) t n (offset (now b) 3 + 4 * first) (now kept) ⌝ }
     ensures { λ r. ⌜ (r ≡ metAt e (now (b .entry)) (now (p .entry)) t n (offset (now (b .entry)) 3 + 4 * first)) × Carried e (now (b .entry)) (now (p .entry)) t n (offset (now (b .entry)) 3 + 4 * first) (now (kept .exit)) ⌝ }
 {
     let mut found = false;
@@ -268,9 +288,9 @@ pub fn met(e: usize, b: &[u32], p: &[u32], first: u32, n: u32, t: Token, kept: &
     let mut slot: usize = 0;
     'settled: while alternatives != 0 {
         let a = choice::alternative_at(e, b, at);
-        let s = settle(b, p, t, a, kept, slot);
+        let s = settle(b, p, last, t, a, kept, slot);
         if s.open {
-            let c = triggered(t);
+            let c = triggered(last, t);
             let times = s.times;
             let rests = s.rests;
             if a.names == 0 {
@@ -299,7 +319,7 @@ pub fn met(e: usize, b: &[u32], p: &[u32], first: u32, n: u32, t: Token, kept: &
         }
         alternatives -= 1;
         at += 4;
-        slot += 21;
+        slot += 23;
     }
     found
 }

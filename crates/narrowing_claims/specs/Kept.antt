@@ -21,6 +21,7 @@ use Rattle.book.specs.Sound.{Sound}
 use Rattle.book.proofs.Inside.{first-word, in-range, alternative-ranges, owner-owns}
 use Rattle.lines.specs.declared.Token.{Token}
 use Rattle.lines.specs.Lines.{lineOf}
+use Rattle.lines.specs.Ends.{planEnd}
 use Rattle.plan.specs.Fault.{planFault}
 use Rattle.allen.specs.Relation.{relationOf}
 use Rattle.choice.specs.Met.{nobody, triggered, constraintHolds, alternativeMet}
@@ -124,16 +125,16 @@ module _ {s : List ℕ} (h : Sound 2 s) (p : List ℕ) (f : planFault s p .numbe
 abbrev noConstraint : Constraint
 noConstraint = record { left = 0; right = 0; set = 0 }
 
-module _ {s : List ℕ} (h : Sound 2 s) (a : ℕ) (l : a < count s 3) (t : Token) (ts : List Token) (few : length ts ≤ 4) where
+module _ {s : List ℕ} (h : Sound 2 s) (a : ℕ) (l : a < count s 3) (last : ℕ) (t : Token) (ts : List Token) (few : length ts ≤ 4) where
   -- a constraint that holds has the relation of its two tokens, counted as the table counts them
   held-stands : (q : Constraint) → Seated (alternativeOf s a .tokens) (firstToken s a) (q .left) → Seated (alternativeOf s a .tokens) (firstToken s a) (q .right)
-      → constraintHolds (choiceOf t ts) q ≡ true
+      → constraintHolds (choiceOf last t ts) q ≡ true
       → inSet (q .set) (relationOfTokens (tokenIn s a t ts (q .left - firstToken s a)) (tokenIn s a t ts (q .right - firstToken s a))) ≡ true
   unfolding constraintHolds
   held-stands q x y e =
       let left : q .left - firstToken s a + firstToken s a ≡ q .left = omega (arith, x .from) in
       let right : q .right - firstToken s a + firstToken s a ≡ q .right = omega (arith, y .from) in
-      let c = choice-time t ts in
+      let c = choice-time last t ts in
       rw (left, right) (rw (c (q .left) few .0, c (q .left) few .1, c (q .right) few .0, c (q .right) few .1) at e)
 
   abbrev Fits : Constraint → Type 0
@@ -143,7 +144,7 @@ module _ {s : List ℕ} (h : Sound 2 s) (a : ℕ) (l : a < count s 3) (t : Token
       × (inSet (q .set) (relationOfTokens (tokenIn s a t ts (q .left - firstToken s a)) (tokenIn s a t ts (q .right - firstToken s a))) ≡ true)
 
   -- all of them
-  all-fit : ((q : Constraint) → Among q (constraintsOf s (alternativeOf s a)) → constraintHolds (choiceOf t ts) q ≡ true)
+  all-fit : ((q : Constraint) → Among q (constraintsOf s (alternativeOf s a)) → constraintHolds (choiceOf last t ts) q ≡ true)
       → All Fits (constraintsOf s (alternativeOf s a))
   unfolding constraintsOf constraintAt
   all-fit hold = all-at Fits noConstraint qs .1 each
@@ -185,7 +186,7 @@ no-relation-lost s a m z p t ts w i j hi hj =
     let filledLong : n * n ≤ length (filled n (n * n) m) = omega (arith, length-filled n (n * n) m, r .enough) in
     no-loss n start end long _ _ (table-narrowed s a m z .cut)
     (all-hold n start end long (firstToken s a) (constraintsOf s (alternativeOf s a)) (filled n (n * n) m) filledLong
-    (all-fit h a (r .below) t ts few (w .meets .hold))
+    (all-fit h a (r .below) (planEnd (lineOf p)) t ts few (w .meets .hold))
     (first-holds n start end long m (r .enough)))
     i j hi hj
 
@@ -193,10 +194,10 @@ no-relation-lost s a m z p t ts w i j hi hj =
 pub none-meets : (s : List ℕ) (a : ℕ) (m : List ℕ) → narrowing s a (length m) .number ≡ 0 → (i j : ℕ) → i < alternativeOf s a .tokens → j < alternativeOf s a .tokens
     → setOf (alternativeOf s a .tokens) (tableAfter s a m) i j ≡ 0
     → (p : List ℕ) → planFault s p .number ≡ 0 → (t : Token) → Among t (triggerLine (lineOf p) (ruleIn s a)) → isTrigger (lineOf p) (ruleIn s a) t ≡ true
-    → alternativeMet constraintHolds (lineOf p) (triggered t) (alternativeIn s a) ≡ false
-none-meets s a m z i j hi hj e p f t o v = by (alternativeMet constraintHolds (lineOf p) (triggered t) (alternativeIn s a)) refl
+    → alternativeMet constraintHolds (lineOf p) (triggered (planEnd (lineOf p)) t) (alternativeIn s a) ≡ false
+none-meets s a m z i j hi hj e p f t o v = by (alternativeMet constraintHolds (lineOf p) (triggered (planEnd (lineOf p)) t) (alternativeIn s a)) refl
   where
-    by : (b : Bool) → alternativeMet constraintHolds (lineOf p) (triggered t) (alternativeIn s a) ≡ b → b ≡ false
+    by : (b : Bool) → alternativeMet constraintHolds (lineOf p) (triggered (planEnd (lineOf p)) t) (alternativeIn s a) ≡ b → b ≡ false
     by false q = refl
     by true q =
         let w = alternative-iff constraintHolds (lineOf p) t (alternativeIn s a) .0 q in

@@ -75,12 +75,14 @@ triggerValueWrong e b v x = (eqb v noLimit && not (eqb x 0)) || (not (eqb v noLi
 abbrev pub tokenWrong : ℕ → Bool → ℕ → Bool
 tokenWrong n trigger x = ltb n x || (eqb x 0 && not trigger)
 
--- "A term's kind is 0 start of, 1 end of, 2 time point"; "A time point is 0..1,000,000,000"
+-- "A term's kind is 0 start of, 1 end of, 2 time point", and "kind 3, end of the plan"
 abbrev pub kindWrong : ℕ → Bool
-kindWrong kind = ltb 2 kind
+kindWrong kind = ltb 3 kind
 
+-- "For 0 and 1 the argument is" a token; "A time point is 0..1,000,000,000"; "end of the plan, argument 0"
 abbrev pub argumentWrong : ℕ → Bool → ℕ → ℕ → Bool
-argumentWrong n trigger kind x = (eqb kind 2 && ltb lastTick x) || (ltb kind 2 && tokenWrong n trigger x)
+argumentWrong n trigger kind x =
+    (eqb kind 2 && ltb lastTick x) || ((eqb kind 3 && not (eqb x 0)) || (ltb kind 2 && tokenWrong n trigger x))
 
 -- ---- the tests of the words of a record, by its table
 

@@ -71,11 +71,12 @@ fn token_wrong(n: usize, trigger: bool, x: usize) -> bool
     (x > n) | ((x == 0) & !trigger)
 }
 
-// Whether x is no argument for a term of this kind: a time point, or a token.
+// Whether x is no argument for a term of this kind: a time point, 0 for the end of the plan, or a token.
 fn argument_wrong(n: usize, trigger: bool, kind: usize, x: usize) -> bool
     ensures { λ r. ⌜ r ≡ argumentWrong n trigger kind x ⌝ }
 {
-    ((kind == 2) & (x > LAST_TICK)) | ((kind < 2) & token_wrong(n, trigger, x))
+    ((kind == 2) & (x > LAST_TICK))
+        | (((kind == 3) & (x != 0)) | ((kind < 2) & token_wrong(n, trigger, x)))
 }
 
 // ---- the first wrong word of a record, at its place: one test for each word in turn, all of them made
@@ -185,9 +186,9 @@ fn atom_word(b: &[u32], at: usize, n: usize, trigger: bool) -> usize
         behind(upper_wrong(lower, read(b, at + 5)), 0),
     );
     let argument = argument_wrong(n, trigger, right, read(b, at + 3));
-    let rest = behind(right > 2, behind(argument, bounds));
+    let rest = behind(right > 3, behind(argument, bounds));
     behind(
-        left > 2,
+        left > 3,
         behind(argument_wrong(n, trigger, left, read(b, at + 1)), rest),
     )
 }

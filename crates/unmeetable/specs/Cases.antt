@@ -23,7 +23,8 @@ use Rattle.lines.specs.declared.Token.{Token}
 use Rattle.lines.specs.Lines.{tokensFrom, lineOf}
 use Rattle.lines.specs.Ends.{endFrom, endsApart, endsFault}
 use Rattle.plan.specs.Fault as plan
-use Rattle.claims.specs.Papers.{Satisfied, Maps}
+use Rattle.claims.specs.Papers.{SatisfiedIn, Maps}
+use Rattle.claims.specs.Specimens.{endBook}
 use Rattle.earliest.specs.Times.{Times, timeOf, AtomMet, noName, noAtom, TokenTimes, shownFrom, shown, Earliest, laid, alternativeOf, ruleOf, SuitsOf, Yes, Told}
 use Rattle.earliest.proofs.Filling.{between}
 use Rattle.unmeetable.specs.Answers.{yes-exactly, yes-shows, no-exactly, no-shows, earliest-one}
@@ -84,6 +85,37 @@ told-E {before = before} t =
     let y = yes-shows t soundE (omega arith) h in
     (h, y .shows ∙ ap (laid before) (earliest-one (ruleOf bookE 0) (alternativeOf bookE 0) (y .times) timesE (y .earliest) earliestE ∙ shownE))
 
+-- 02, L8: from time point 0 to the end of the plan at least 1, without tokens: the plan's end alone is shown
+abbrev timesEnd : Times
+timesEnd = record { start = λ k. 0; end = λ k. 1; planEnd = 1 }
+
+earliestEnd : Earliest (variablesOf endBook) (ruleOf endBook 0) (alternativeOf endBook 0) timesEnd
+unfolding run least owner inBounds nameAt atomAt alternativeAt ruleAt timeOf shown shownFrom
+earliestEnd =
+    record {
+      suits = record { trigger = λ n. absurd (n refl); names = λ i l. absurd (omega arith); atoms = atoms };
+      first = λ y s. let late = between 0 (y .planEnd) 1 noLimit .0 (s .atoms 0 (omega arith) (λ e. omega arith)) .least in
+          elim [ zero ↦ omega arith | suc i ↦ omega arith ];
+    }
+  where
+    atoms : (i : ℕ) → i < 1 → AtomMet (getD (alternativeOf endBook 0 .asks) i noAtom) timesEnd
+    atoms zero l n = refl
+    atoms (suc i) l n = absurd (omega arith)
+
+end-sound : book.bookFault 1 endBook .number ≡ 0
+unfolding orElse least first fifthWidth fifthMost begins headerWrong starts owner setWrong valueTests fifthTestsOf fifthTests wrongWord recordWrong leaves tableWrong toldWord book.lengthFault book.headerFault book.endFault book.recordFault book.bookFault
+end-sound = refl
+
+shownEnd : shown (ruleOf endBook 0) (alternativeOf endBook 0) timesEnd ≡ 1 ∷ []
+unfolding run least owner nameAt alternativeAt ruleAt shown shownFrom
+shownEnd = refl
+
+pub told-end : {r : Numbers} {before after : List ℕ} → Told endBook 0 r before after → (r ≡ numbers 0 1 0) × (after ≡ laid before (1 ∷ []))
+told-end {before = before} t =
+    let h = yes-exactly t end-sound (omega arith) .1 (timesEnd, earliestEnd .suits) in
+    let y = yes-shows t end-sound (omega arith) h in
+    (h, y .shows ∙ ap (laid before) (earliest-one (ruleOf endBook 0) (alternativeOf endBook 0) (y .times) timesEnd (y .earliest) earliestEnd ∙ shownEnd))
+
 -- ---- "no"
 
 -- no trigger, two names of one value: the second starts "at least 40 after" the first, and "at most 30 after"
@@ -124,7 +156,7 @@ unfolding orElse least first inSet inBounds tokensFrom lineOf endFrom endsApart 
 two-passes = refl
 
 -- and no choice of its tokens meets the alternative
-pub two-never : (t : Token) (ts : List Token) → Maps Satisfied (lineOf two) t (alternativeOf hopeless 0) ts → ⊥
+pub two-never : (t : Token) (ts : List Token) → Maps (SatisfiedIn (lineOf two)) (lineOf two) t (alternativeOf hopeless 0) ts → ⊥
 unfolding least owner ruleAt
 two-never t ts =
     never hopeless two hopeless-sound two-passes 0 (omega arith) hopeless-none t

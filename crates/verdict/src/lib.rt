@@ -25,6 +25,7 @@ fn survey_line(e: usize, b: &[u32], p: &[u32], place: usize) -> Tally
     requires { ⌜ (place < 2 ^ 60) × (word (now b) place ≡ noLimit → ⊥) ⌝ }
     ensures { λ r. ⌜ Surveyed e (now (b .entry)) (now (p .entry)) place r ⌝ }
 {
+    let last = lines::plan_end(p);
     let line = number_at(b, place);
     let value = word_at(b, place + 1);
     let first = word_at(b, place + 2);
@@ -34,7 +35,7 @@ fn survey_line(e: usize, b: &[u32], p: &[u32], place: usize) -> Tally
     let mut start: u64 = 0;
     let mut token: u32 = 0;
     let mut seen: u32 = 0;
-    let mut kept = [0u64; 1344];
+    let mut kept = [0u64; 1472];
     while token < count {
         let end = start + word_at(p, at + 1) as u64;
         if word_at(p, at) == value {
@@ -43,7 +44,7 @@ fn survey_line(e: usize, b: &[u32], p: &[u32], place: usize) -> Tally
                 start: Time { tick: start },
                 end: Time { tick: end },
             };
-            if !matching::met(e, b, p, first, n, t, &mut kept) {
+            if !matching::met(e, b, p, first, n, last, t, &mut kept) {
                 break;
             }
             seen += 1;
@@ -67,13 +68,14 @@ fn survey(e: usize, b: &[u32], p: &[u32], place: usize) -> Tally
     if word_at(b, place) != Time::NO_LIMIT {
         return survey_line(e, b, p, place);
     }
-    let mut kept = [0u64; 1344];
+    let mut kept = [0u64; 1472];
     let met = matching::met(
         e,
         b,
         p,
         word_at(b, place + 2),
         word_at(b, place + 3),
+        lines::plan_end(p),
         choice::nobody(),
         &mut kept,
     );

@@ -6,7 +6,7 @@
 mod proved;
 
 use desk::answer::Answer;
-use desk::model::{Ask, Kind, Plan, Rules, Term};
+use desk::model::{Ask, Kind, Plan, Rules};
 use desk::trial::brute;
 use desk::trial::generate::{self, damaged, Rng, SMALL};
 use desk::words::to_bytes;
@@ -23,14 +23,9 @@ fn judge(kind: Kind, book: &[u32], plan: &[u32]) -> Answer {
     }
 }
 
-/// Whether the library knows all that the rules ask: not the end of the plan, and no jobs.
+/// Whether the library knows all that the rules ask: no jobs.
 fn known(rules: &Rules) -> bool {
-    let fixed = |term: &Term| *term == Term::PlanEnd;
-    let new = |ask: &Ask| match ask {
-        Ask::Bound { left, right, .. } => fixed(left) || fixed(right),
-        Ask::SameJob { .. } => true,
-        Ask::Relation { .. } => false,
-    };
+    let new = |ask: &Ask| matches!(ask, Ask::SameJob { .. });
     !rules.rules.iter().flat_map(|rule| &rule.ways).flat_map(|way| &way.asks).any(new)
 }
 

@@ -99,6 +99,21 @@ fn hopeless() -> Example {
     }
 }
 
+/// Bundles on one line, and the rule that each ends 20 or more before the plan.
+fn late_bundle() -> Example {
+    let mut draft = Draft::new(Kind::Book, vec![vec![[1, N, 3]; 2]]);
+    draft.rule([0, 1], vec![alternative(&[], &[&[1, 0, 3, 0, 20, N]])]);
+    Example {
+        folder: "late-bundle",
+        sheet: false,
+        book: draft.words(),
+        plan: plan_words(&vec![vec![[1, 30], [0, 10], [1, 30], [0, 19]]]),
+        expected: [12, 0, 2, 0],
+        what: "\"Last bundle at least 20 before the end\": trucks leave when the plan ends, at 89, and the last \
+               bundle, token 2, ends at 70, one tick too late.",
+    }
+}
+
 /// The words with one more at the end, the total being right.
 fn one_more(words: &[u32]) -> Vec<u32> {
     let mut out = words.to_vec();
@@ -191,6 +206,7 @@ fn all() -> Vec<Example> {
             "The book has one alternative, number 0; asked for the times of number 1, the answer is 27 0 0 0.",
         ),
         hopeless(),
+        late_bundle(),
         sheet(
             "sheet",
             &P1,

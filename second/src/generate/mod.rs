@@ -4,6 +4,7 @@ pub mod damage;
 pub mod draft;
 pub mod extreme;
 pub mod load;
+pub mod plan_end;
 pub mod random;
 pub mod rng;
 pub mod slow;

@@ -177,7 +177,15 @@ fn anchor(rng: &mut Rng, draft: &Draft, spans: &[Vec<(u32, Span)>]) -> ([u32; 2]
     ([variable as u32, value], span)
 }
 
+/// What the tests of an alternative may speak of: the tokens chosen for the
+/// trigger, if there is one, and the names, and the end of the plan.
+struct Known {
+    tokens: Vec<Option<Span>>,
+    plan_end: u32,
+}
+
 fn rule(rng: &mut Rng, draft: &mut Draft, spans: &[Vec<(u32, Span)>], size: Size) {
+    let plan_end = spans[0].last().map_or(0, |(_, span)| span.end);
     let (trigger, first) = match rng.percent(15) {
         true => (NO_TRIGGER, None),
         false => {
@@ -190,11 +198,11 @@ fn rule(rng: &mut Rng, draft: &mut Draft, spans: &[Vec<(u32, Span)>], size: Size
     let mut alternatives = Vec::new();
     for _ in 0..rng.from(1, size.alternatives) {
         let mut alternative = AlternativeDraft::default();
-        let mut known = vec![first];
+        let mut known = Known { tokens: vec![first], plan_end };
         for _ in 0..rng.pick(&[0, 1, 1, 1, 2, 2, 3, 4]) {
             let (name, span) = anchor(rng, draft, spans);
             alternative.names.push(name);
-            known.push(Some(span));
+            known.tokens.push(Some(span));
         }
         let most = size.tests.min(draft.kind.most_tests());
         for _ in 0..rng.from(0, most) {
@@ -210,19 +218,22 @@ fn rule(rng: &mut Rng, draft: &mut Draft, spans: &[Vec<(u32, Span)>], size: Size
 }
 
 /// A token number that may stand in a test.
-fn token(rng: &mut Rng, known: &[Option<Span>]) -> Option<(u32, Span)> {
-    let can: Vec<u32> = (0..known.len() as u32).filter(|&t| known[t as usize].is_some()).collect();
+fn token(rng: &mut Rng, known: &Known) -> Option<(u32, Span)> {
+    let tokens = &known.tokens;
+    let can: Vec<u32> =
+        (0..tokens.len() as u32).filter(|&t| tokens[t as usize].is_some()).collect();
     if can.is_empty() {
         return None;
     }
     let token = rng.pick(&can);
-    known[token as usize].map(|span| (token, span))
+    tokens[token as usize].map(|span| (token, span))
 }
 
 /// Kind, argument and the time it has in the chosen tokens.
-fn term(rng: &mut Rng, known: &[Option<Span>]) -> (u32, u32, i64) {
-    let kind = rng.pick(&[0, 0, 0, 1, 1, 1, 2]);
+fn term(rng: &mut Rng, known: &Known) -> (u32, u32, i64) {
+    let kind = rng.pick(&[0, 0, 0, 1, 1, 1, 2, 3]);
     match (kind, token(rng, known)) {
+        (3, _) => (3, 0, i64::from(known.plan_end)),
         (0, Some((token, span))) => (0, token, i64::from(span.start)),
         (1, Some((token, span))) => (1, token, i64::from(span.end)),
         (_, near) => {
@@ -234,7 +245,7 @@ fn term(rng: &mut Rng, known: &[Option<Span>]) -> (u32, u32, i64) {
 }
 
 /// Bounds that hold in the chosen tokens, or just fail to.
-fn atom(rng: &mut Rng, known: &[Option<Span>], loose: bool) -> Vec<u32> {
+fn atom(rng: &mut Rng, known: &Known, loose: bool) -> Vec<u32> {
     let (mut left, mut right) = (term(rng, known), term(rng, known));
     if right.2 < left.2 && rng.percent(85) {
         std::mem::swap(&mut left, &mut right);
@@ -262,7 +273,7 @@ fn atom(rng: &mut Rng, known: &[Option<Span>], loose: bool) -> Vec<u32> {
 }
 
 /// A set with the relation of the chosen tokens, or just without it.
-fn constraint(rng: &mut Rng, known: &[Option<Span>], loose: bool) -> Option<Vec<u32>> {
+fn constraint(rng: &mut Rng, known: &Known, loose: bool) -> Option<Vec<u32>> {
     let (left, right) = (token(rng, known)?, token(rng, known)?);
     let times = |span: Span| (span.start, span.end);
     let here = 1 << relation(times(left.1), times(right.1));

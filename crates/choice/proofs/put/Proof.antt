@@ -7,9 +7,11 @@ use Rattle.choice.proofs.put.Tie as tie
 
 returns : tie.Need-returns
 unfolding put
-returns c = c .set-time2 .ensures ∙ rw (c .before .before .set-time .ensures)
+returns c =
+    let s = c .before .before .before in
+    rw (← c .before .time-place2 .ensures, ← s .before .time-place .ensures) (c .set-time2 .ensures ∙ rw (s .set-time .ensures))
 
 pub put-spec : {M : Type 1} → statement M
 put-spec =
     tie.close
-    (tie.spec (λ c. search needs) (λ c κs. search needs) (λ c. search needs) (λ c. search needs) (λ c κs. search needs) returns)
+    (tie.spec (λ c κs. search needs) (λ c κs. search needs) (λ c κs. search needs) (λ c κs. search needs) returns)

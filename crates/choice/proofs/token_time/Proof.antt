@@ -6,7 +6,7 @@ use Rattle.choice.proofs.token_time.Tie as tie
 
 returns : tie.Need-returns
 unfolding tokenTime
-returns c = c .time-at .ensures
+returns c = rw (← c .before .time-place .ensures) (c .time-at .ensures)
 
 pub token-time-spec : {M : Type 1} → statement M
-token-time-spec = tie.close (tie.spec (λ c. search needs) (λ c. search needs) (λ c κs. search needs) returns)
+token-time-spec = tie.close (tie.spec (λ c κs. search needs) (λ c κs. search needs) returns)

@@ -8,14 +8,15 @@ use borrow.Author.Needs.{needs}
 use borrow.Author.Tests.{not-true, not-false}
 use Rattle.lines.specs.declared.Token.{Token}
 use Rattle.choice.specs.declared.Tokens.{Tokens}
-use Rattle.choice.specs.Met.{triggered}
+use Rattle.choice.specs.Met.{choiceSize}
+use Rattle.choice.specs.Asked.{triggeredIn}
 use Rattle.marks.specs.Marked.{Marked}
 use Rattle.marks.proofs.Marks.{marked-none, marked-full, start-none, start-next}
 use Rattle.marks.proofs.start_marks.Statement.{statement}
 use Rattle.marks.proofs.start_marks.Tie as tie
 
 abbrev Inv-loop : tie.InvT-loop
-Inv-loop b p a c₀ r₀ k₀ c r k = (k ≤ a .names) × ((u : Token) → c₀ ≡ triggered u → length r₀ ≡ 10 → Marked b p a u k c r)
+Inv-loop b p a c₀ r₀ k₀ c r k = (k ≤ a .names) × ((u : Token) → c₀ ≡ triggeredIn p u → length r₀ ≡ choiceSize → Marked b p a u k c r)
 
 abbrev μ-loop : tie.MeasureT-loop
 μ-loop b p a c₀ r₀ k₀ c r k = a .names - k

@@ -10,31 +10,31 @@ use borrow.Author.Needs.{needs}
 use Rattle.layout.specs.Layout.{offset}
 use Rattle.choice.specs.Asked.{metAt}
 use Rattle.matching.specs.Search.{tokenFor, Along}
-use Rattle.matching.specs.Carried.{Carried}
-use Rattle.matching.proofs.Search.{begun-none, begun-first, along-next, place-none, place-some, token-none, token-hit, token-skip, token-miss}
+use Rattle.matching.specs.Carried.{slotSize, Carried}
+use Rattle.matching.proofs.Search.{trigger-in, begun-none, begun-first, along-next, place-none, place-some, token-none, token-hit, token-skip, token-miss}
 use Rattle.matching.proofs.Carrying.{slot-fits, carried-at, carried-next, metHere, alt-placed, alt-none, alt-step}
 use Rattle.matching.proofs.met.Statement.{statement}
 use Rattle.matching.proofs.met.Tie as tie
 
 abbrev Inv-loop : tie.InvT-loop
-Inv-loop e b p first n t kept found₀ alternatives at slot a c times rests w token₀ start₀ count₀ found token start count =
+Inv-loop e b p first n last t kept found₀ alternatives at slot a c times rests w token₀ start₀ count₀ found token start count =
     (found ≡ false) × Along b p a 0 (record { value = w .value; count = count; place = token; start = start })
     × (metHere e b p t at ≡ tokenFor b p a (a .names - 1) 0 c (record { value = w .value; count = count; place = token; start = start }))
 
 abbrev μ-loop : tie.MeasureT-loop
-μ-loop e b p first n t kept found₀ alternatives at slot a c times rests w token₀ start₀ count₀ found token start count = count
+μ-loop e b p first n last t kept found₀ alternatives at slot a c times rests w token₀ start₀ count₀ found token start count = count
 
 abbrev Inv-settled : tie.InvT-settled
-Inv-settled e b p first n t kept₀ found₀ alternatives₀ at₀ slot₀ kept found alternatives at slot =
+Inv-settled e b p first n last t kept₀ found₀ alternatives₀ at₀ slot₀ kept found alternatives at slot =
     (found ≡ false) × (alternatives ≤ n) × (at + 4 * alternatives < 2 ^ 50) × (metAt e b p t n (offset b 3 + 4 * first) ≡ metAt e b p t alternatives at)
-    × (at + 4 * alternatives ≡ offset b 3 + 4 * first + 4 * n) × (slot + 21 * alternatives ≡ 21 * n) × Carried e b p t n (offset b 3 + 4 * first) kept
+    × (at + 4 * alternatives ≡ offset b 3 + 4 * first + 4 * n) × (slot + slotSize * alternatives ≡ slotSize * n) × Carried e b p t n (offset b 3 + 4 * first) kept
 
 abbrev μ-settled : tie.MeasureT-settled
-μ-settled e b p first n t kept₀ found₀ alternatives₀ at₀ slot₀ kept found alternatives at slot = alternatives
+μ-settled e b p first n last t kept₀ found₀ alternatives₀ at₀ slot₀ kept found alternatives at slot = alternatives
 
 settled-holds : tie.Need-settled-holds Inv-loop μ-loop Inv-settled μ-settled
 settled-holds c =
-    (refl, omega arith, omega arith, rw (c .number-at .ensures .0), omega (arith, c .number-at .ensures .0), omega arith, c .before .before .before .before .pre)
+    (refl, omega arith, omega arith, rw (c .number-at .ensures .0), omega (arith, c .number-at .ensures .0), omega arith, c .before .before .before .before .pre .1)
 
 settle-requires : tie.Need-settle-requires Inv-loop μ-loop Inv-settled μ-settled
 settle-requires c κs =
@@ -46,6 +46,7 @@ settle-requires c κs =
       omega (arith, s .5),
       slot-fits _ _ _ _ (s .5) (s .6 .long),
       carried-at _ _ _ _ _ _ _ _ _ _ _ (s .6) (c .before .before .settled-test .taken) (s .1) (s .4) (s .5) (a .0),
+      c .before .before .before .before .before .before .before .before .pre .0,
     )
 
 hold-so-far-requires : tie.Need-hold-so-far-requires Inv-loop μ-loop Inv-settled μ-settled
@@ -58,9 +59,10 @@ tokens-left-requires c κs =
 
 loop-holds : tie.Need-loop-holds Inv-loop μ-loop Inv-settled μ-settled
 loop-holds c =
-    let t = c .before .before .before .before .before .before .before .before .before .before .before .before .before .before .before .before .before .before .before .before .args .t in
+    let o = c .before .before .before .before .before .before .before .before .before .before .before .before .before .before .before .before .before .before .before .before in
+    let t = o .args .t in
     let w = c .tokens-left .ensures in
-    let same = c .before .before .before .before .before .before .before .triggered .ensures in (
+    let same = trigger-in _ t _ _ (o .pre .0) (c .before .before .before .before .before .before .before .triggered .ensures) in (
       c .before .before .before .before .before .before .before .before .before .before .before .before .before .before .before .settled .inv .0,
       w .0,
       alt-placed _ _ _ t _ _ _ (c .before .before .before .before .before .before .before .before .before .before .before .before .before .alternative-at .ensures .0) same
@@ -73,12 +75,13 @@ sub-try-token c = omega (arith, c .before .before .before .before .before .befor
 try-token-requires : tie.Need-try-token-requires Inv-loop μ-loop Inv-settled μ-settled
 try-token-requires c κs =
     let a = c .before .before .before .before .before .before .before .before .before .before .before .before .before .before .before .before .before .before .before .before .before .before .alternative-at .ensures in
-    let t = c .before .before .before .before .before .before .before .before .before .before .before .before .before .before .before .before .before .before .before .before .before .before .before .before .before .before .before .before .before .args .t in (
+    let o = c .before .before .before .before .before .before .before .before .before .before .before .before .before .before .before .before .before .before .before .before .before .before .before .before .before .before .before .before .before in
+    let t = o .args .t in (
       omega (arith, c .before .before .before .before .before .before .before .before .before .before .before .before .if2 .left),
       a .2,
       a .1,
       omega (arith, a .3, a .4),
-      begun-first _ _ _ t 0 _ _ _ _ (begun-none _ _ _ t _ (c .before .before .before .before .before .before .before .before .before .before .before .before .before .before .before .before .triggered .ensures)) (c .before .before .before .before .before .before .before .before .loop .inv .1) (c .before .before .before .before .before .before .before .loop-test .taken) (c .before .before .before .before .before .before .word-at .ensures) (c .before .before .before .before .before .word-at2 .ensures) (c .before .before .before .if4 .taken),
+      begun-first _ _ _ t 0 _ _ _ _ (begun-none _ _ _ t _ (trigger-in _ t _ _ (o .pre .0) (c .before .before .before .before .before .before .before .before .before .before .before .before .before .before .before .before .triggered .ensures))) (c .before .before .before .before .before .before .before .before .loop .inv .1) (c .before .before .before .before .before .before .before .loop-test .taken) (c .before .before .before .before .before .before .word-at .ensures) (c .before .before .before .before .before .word-at2 .ensures) (c .before .before .before .if4 .taken),
       c .before .before .before .before .before .before .before .before .before .before .before .before .before .before .before .before .before .before .before .before .settle .ensures .0 .some (c .before .before .before .before .before .before .before .before .before .before .before .before .before .before .before .before .before .if1 .taken),
     )
 
@@ -97,13 +100,14 @@ loop-again c =
 
 settled-again : tie.Need-settled-again Inv-loop μ-loop Inv-settled μ-settled
 settled-again c =
-    let a = c .before .before .before .before .before .before .before .before .before .before .before .before .args in
+    let o = c .before .before .before .before .before .before .before .before .before .before .before .before in
+    let a = o .args in
     let s = c .before .before .before .before .before .before .before .settled in
     let alt = c .before .before .before .before .before .alternative-at .ensures .0 in
     let some = c .before .before .before .before .before .before .settled-test .taken in
     let fails : metHere (a .e) (a .b .now) (a .p .now) (a .t) (s .at) ≡ false =
     ⊎-elim
-    (λ g. alt-placed _ _ _ (a .t) _ _ _ alt (g .1 .ensures) ∙ place-none _ _ _ _ 0 _ _ (omega arith) (g .5 .taken) (g .7 .ensures) ∙ g .8 .left)
+    (λ g. alt-placed _ _ _ (a .t) _ _ _ alt (trigger-in _ (a .t) _ _ (o .pre .0) (g .1 .ensures)) ∙ place-none _ _ _ _ 0 _ _ (omega arith) (g .5 .taken) (g .7 .ensures) ∙ g .8 .left)
     (⊎-elim
     (λ g. g .9 .inv .2 ∙ sym (token-none _ _ _ _ _ _ _ (g .10 .left)))
     (λ g. alt-placed _ _ _ (a .t) _ _ _ alt refl ∙ c .before .before .before .settle .ensures .0 .none (g .0 .left)))
@@ -118,29 +122,30 @@ settled-again c =
     )
 
 same-length : tie.Need-same-length Inv-loop μ-loop Inv-settled μ-settled
-same-length c = c .before .settled .inv .6 .long ∙ sym (c .before .before .before .before .before .before .pre .long)
+same-length c = c .before .settled .inv .6 .long ∙ sym (c .before .before .before .before .before .before .pre .1 .long)
 
 returns : tie.Need-returns Inv-loop μ-loop Inv-settled μ-settled
 returns c = (c .before .settled .inv .0 ∙ sym (c .before .settled .inv .3 ∙ alt-none _ _ _ _ _ _ (c .settled-test .left)), c .before .settled .inv .6)
 
 same-length-2 : tie.Need-same-length-2 Inv-loop μ-loop Inv-settled μ-settled
-same-length-2 c = c .before .before .before .before .before .before .before .before .before .before .before .settle .ensures .2 .long ∙ c .before .before .before .before .before .before .before .before .before .before .before .before .before .before .before .settled .inv .6 .long ∙ sym (c .before .before .before .before .before .before .before .before .before .before .before .before .before .before .before .before .before .before .before .before .pre .long)
+same-length-2 c = c .before .before .before .before .before .before .before .before .before .before .before .settle .ensures .2 .long ∙ c .before .before .before .before .before .before .before .before .before .before .before .before .before .before .before .settled .inv .6 .long ∙ sym (c .before .before .before .before .before .before .before .before .before .before .before .before .before .before .before .before .before .before .before .before .pre .1 .long)
 
 returns-2 : tie.Need-returns-2 Inv-loop μ-loop Inv-settled μ-settled
 returns-2 c =
-    let t = c .before .before .before .before .before .before .before .before .before .before .before .before .before .before .before .before .before .before .before .before .args .t in
+    let o = c .before .before .before .before .before .before .before .before .before .before .before .before .before .before .before .before .before .before .before .before in
+    let t = o .args .t in
     let s = c .before .before .before .before .before .before .before .before .before .before .before .before .before .before .before .settled .inv in
     let alt = c .before .before .before .before .before .before .before .before .before .before .before .before .before .alternative-at .ensures .0 in
     let some = c .before .before .before .before .before .before .before .before .before .before .before .before .before .before .settled-test .taken in (
       sym
           (s .3
           ∙ alt-step _ _ _ _ _ _ _ some
-          (alt-placed _ _ _ t _ _ _ alt (c .before .before .before .before .before .before .before .triggered .ensures) ∙ place-none _ _ _ _ 0 _ _ (omega arith) (c .before .before .before .if2 .taken) (c .before .hold-so-far .ensures) ∙ c .if3 .taken)),
+          (alt-placed _ _ _ t _ _ _ alt (trigger-in _ t _ _ (o .pre .0) (c .before .before .before .before .before .before .before .triggered .ensures)) ∙ place-none _ _ _ _ 0 _ _ (omega arith) (c .before .before .before .if2 .taken) (c .before .hold-so-far .ensures) ∙ c .if3 .taken)),
       carried-next _ _ _ _ _ _ _ _ _ _ _ (s .6) some (s .1) (s .4) (s .5) alt _ (c .before .before .before .before .before .before .before .before .before .before .before .settle .ensures .1) (c .before .before .before .before .before .before .before .before .before .before .before .settle .ensures .2),
     )
 
 same-length-3 : tie.Need-same-length-3 Inv-loop μ-loop Inv-settled μ-settled
-same-length-3 c = c .before .before .before .before .before .before .before .before .before .before .before .before .before .before .before .before .before .before .before .before .before .before .settle .ensures .2 .long ∙ c .before .before .before .before .before .before .before .before .before .before .before .before .before .before .before .before .before .before .before .before .before .before .before .before .before .before .settled .inv .6 .long ∙ sym (c .before .before .before .before .before .before .before .before .before .before .before .before .before .before .before .before .before .before .before .before .before .before .before .before .before .before .before .before .before .before .before .pre .long)
+same-length-3 c = c .before .before .before .before .before .before .before .before .before .before .before .before .before .before .before .before .before .before .before .before .before .before .settle .ensures .2 .long ∙ c .before .before .before .before .before .before .before .before .before .before .before .before .before .before .before .before .before .before .before .before .before .before .before .before .before .before .settled .inv .6 .long ∙ sym (c .before .before .before .before .before .before .before .before .before .before .before .before .before .before .before .before .before .before .before .before .before .before .before .before .before .before .before .before .before .before .before .pre .1 .long)
 
 returns-3 : tie.Need-returns-3 Inv-loop μ-loop Inv-settled μ-settled
 returns-3 c =

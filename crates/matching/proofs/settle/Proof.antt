@@ -3,6 +3,7 @@ use mathlib.Core.Path.{_≡_, refl, sym, _∙_}
 use native.Mathlib.Omega.{arith}
 use borrow.Author.Needs.{needs}
 use borrow.Author.Tests.{not-true, not-false}
+use Rattle.matching.proofs.Search.{trigger-in}
 use Rattle.matching.proofs.Carrying.{going-on, slot-none, dead-slot, dead-carry, settled-bare, settled-never}
 use Rattle.matching.proofs.settle.Statement.{statement}
 use Rattle.matching.proofs.settle.Tie as tie
@@ -30,7 +31,7 @@ returns-3 : tie.Need-returns-3
 returns-3 c = c .before .before .carry-on .ensures
 
 start-marks-requires : tie.Need-start-marks-requires
-start-marks-requires c κs = let s = c .before .before .before .before .before .before .before .before .before .before .before .before in (c .before .before .before .before .before .before .if1 .left, s .pre .0, c .before .before .before .before .before .before .before .before .triggered .ensures, refl)
+start-marks-requires c κs = let s = c .before .before .before .before .before .before .before .before .before .before .before .before in (c .before .before .before .before .before .before .if1 .left, s .pre .0, trigger-in _ (s .args .t) _ _ (s .pre .6) (c .before .before .before .before .before .before .before .before .triggered .ensures), refl)
 
 same-length-3 : tie.Need-same-length-3
 same-length-3 c = let s = c .before .before .before .before .before .before .before .before .before .before .before .before .before .before .before .before .before .before in dead-slot (s .args .kept .now) _ _ (c .before .before .set-time .ensures) .long

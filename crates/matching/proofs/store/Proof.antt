@@ -2,16 +2,16 @@
 use Prim.Native.Nat.{_-_, _≤_}
 use native.Mathlib.Omega.{arith}
 use borrow.Author.Needs.{needs}
-use Rattle.matching.specs.Carried.{Storing}
+use Rattle.matching.specs.Carried.{rowSize, Storing}
 use Rattle.matching.proofs.Carrying.{storing-none, storing-next, storing-all}
 use Rattle.matching.proofs.store.Statement.{statement}
 use Rattle.matching.proofs.store.Tie as tie
 
 abbrev Inv-loop : tie.InvT-loop
-Inv-loop m₀ k c i₀ m i = (i ≤ 10) × Storing m₀ m k c i
+Inv-loop m₀ k c i₀ m i = (i ≤ rowSize) × Storing m₀ m k c i
 
 abbrev μ-loop : tie.MeasureT-loop
-μ-loop m₀ k c i₀ m i = 10 - i
+μ-loop m₀ k c i₀ m i = rowSize - i
 
 loop-holds : tie.Need-loop-holds Inv-loop μ-loop
 loop-holds c = (omega arith, storing-none _ _ _)

@@ -8,13 +8,13 @@ use Rattle.verdict.proofs.survey.Statement.{statement}
 use Rattle.verdict.proofs.survey.Tie as tie
 
 met-requires : tie.Need-met-requires
-met-requires c κs = carried-fresh _ _ _ _ _ _ _ refl refl
+met-requires c κs = (c .before .before .plan-end .ensures, carried-fresh _ _ _ _ _ _ _ refl refl)
 
 returns-2 : tie.Need-returns-2
 returns-2 c =
     let m = c .before in
     let n = m .before .before in
-    bare _ _ _ _ (omega arith) _ _ _ _ (n .before .before .word-at2 .ensures) (n .before .word-at3 .ensures) (n .nobody .ensures) (m .met .ensures .0)
+    bare _ _ _ _ (omega arith) _ _ _ _ (n .before .before .before .word-at2 .ensures) (n .before .before .word-at3 .ensures) (n .nobody .ensures) (m .met .ensures .0)
 
 pub survey-spec : {M : Type 1} → statement M
 survey-spec =
@@ -26,6 +26,7 @@ survey-spec =
     (λ c. search needs)
     (λ c κs. search needs)
     (λ c. search needs)
+    (λ c κs. search needs)
     (λ c κs. search needs)
     (λ c κs. search needs)
     (λ c. search needs)

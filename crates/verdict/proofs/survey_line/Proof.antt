@@ -19,17 +19,17 @@ abbrev from : ℕ → Token
 from start = token 0 start start
 
 abbrev Inv-loop : tie.InvT-loop
-Inv-loop e b p place line value first n count at₀ start₀ token₀ seen₀ kept₀ at start token seen kept =
+Inv-loop e b p place last line value first n count at₀ start₀ token₀ seen₀ kept₀ at start token seen kept =
     RuleWords b place value first n × OnLine e b p place count at start token seen × Carried e b p (from start) n (offset b 3 + 4 * first) kept
 
 abbrev μ-loop : tie.MeasureT-loop
-μ-loop e b p place line value first n count at₀ start₀ token₀ seen₀ kept₀ at start token seen kept = count - token
+μ-loop e b p place last line value first n count at₀ start₀ token₀ seen₀ kept₀ at start token seen kept = count - token
 
 loop-holds : tie.Need-loop-holds Inv-loop μ-loop
 loop-holds c =
     let n = c .before .before .before in
     let l = n .before .before .before in
-    let some = l .before .before .before .pre .1 in (
+    let some = l .before .before .before .before .pre .1 in (
       record { triggered = some; value = n .before .before .word-at .ensures; first = n .before .word-at2 .ensures; number = n .word-at3 .ensures },
       line-start _ _ _ _ _ _ _ _ some (l .number-at .ensures .0) (c .before .before .word-at4 .ensures) (c .before .number-at2 .ensures .0)
           (c .number-at3 .ensures .0) (omega arith) (omega arith) (omega arith),
@@ -41,7 +41,10 @@ slice-aggregate-met c = search needs
 
 met-requires : tie.Need-met-requires Inv-loop μ-loop
 met-requires c κs =
-    carried-later _ _ _ _ _ _ _ _ (record { start = omega arith; end = omega arith }) (c .before .before .before .before .before .loop .inv .2)
+    let l = c .before .before .before .before .before in (
+      l .before .before .before .before .before .before .before .before .plan-end .ensures,
+      carried-later _ _ _ _ _ _ _ _ (record { start = omega arith; end = omega arith }) (l .loop .inv .2),
+    )
 
 loop-again : tie.Need-loop-again Inv-loop μ-loop
 loop-again c =
@@ -74,6 +77,7 @@ survey-line-spec =
     (tie.spec
     Inv-loop
     μ-loop
+    (λ c κs. search needs)
     (λ c κs. search needs)
     (λ c. search needs)
     (λ c κs. search needs)

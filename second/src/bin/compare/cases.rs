@@ -29,6 +29,7 @@ fn specimens(both: &mut Both) -> u64 {
         both.case = format!("specimen {}", specimen.name);
         let answer = match &specimen.call {
             Call::Judge(book, plan) => both.judge(&to_bytes(book), &to_bytes(plan)),
+            Call::Check(book) => both.judge(&to_bytes(book), &[]),
             Call::JudgeSheet(sheet, plan) => both.judge_sheet(&to_bytes(sheet), &to_bytes(plan)),
             Call::Translate(sheet, room) => both.translate(&to_bytes(sheet), *room).0,
             Call::Earliest(book, number, times) => {

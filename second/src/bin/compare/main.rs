@@ -7,6 +7,7 @@
 mod both;
 mod cases;
 mod part;
+mod plan_end;
 #[path = "../../proved/mod.rs"]
 mod proved;
 mod tally;
@@ -17,7 +18,7 @@ use std::process::exit;
 use std::time::Instant;
 use tally::Door;
 
-const PARTS: &[&Part] = &[&cases::BASE];
+const PARTS: &[&Part] = &[&cases::BASE, &plan_end::PART];
 const SEED: u64 = 20_250_101;
 
 fn usage() -> ! {
