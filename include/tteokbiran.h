@@ -4,10 +4,10 @@
  * which nothing here can check:
  *   - a run's pointer points to as many elements as its count says, aligned for their type, readable (room, table, times: writable too), and
  *     changed by nobody else during the call; with a count of 0 it may be any pointer, also NULL;
- *   - every other pointer (number, a, b, c; token of open; token, start, value and end of step) points to a writable number of its type,
+ *   - every other pointer (number, a, b, c; token of open; token, start, value, end and job of step) points to a writable number of its type,
  *     aligned; in one call no two of them overlap, and none lies in a run that is lent;
  *   - room, table or times overlaps no other run. Runs that are only read may overlap each other.
- * What number, a, b, c, value and end held before the call doesn't matter. No function keeps a pointer, uses the heap, or writes to
+ * What number, a, b, c, value, end and job held before the call doesn't matter. No function keeps a pointer, uses the heap, or writes to
  * anything that isn't named here. Calls from several threads don't disturb each other.
  */
 #ifndef TTEOKBIRAN_H
@@ -60,10 +60,10 @@ void tteokbiran_open(const uint32_t *book, size_t book_len, const uint32_t *plan
                      uint32_t *a, uint32_t *b, uint32_t *c, uint32_t *token);
 
 /* One step on timeline `line` of the lent words, at token number *token, which starts at *start. Any words and any position will do: it
- * isn't asked whether the plan was opened. True: *value and *end are the token's, and *token and *start become the next position's. False:
- * no more, and none of the four is changed. */
+ * isn't asked whether the plan was opened. True: *value, *end and *job are the token's, and *token and *start become the next position's. A
+ * token has three words in edition 2, else two, and job 0. False: no more, and none of the five is changed. */
 bool tteokbiran_step(const uint32_t *plan, size_t plan_len, uint32_t line, uint32_t *token, uint64_t *start, uint32_t *value,
-                     uint64_t *end);
+                     uint64_t *end, uint32_t *job);
 
 #ifdef __cplusplus
 }

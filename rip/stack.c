@@ -18,7 +18,7 @@
 static uint8_t book[MOST], sheet[MOST], plan[MOST];
 static uint32_t book_words[MOST / 4], plan_words[MOST / 4], room[16384];
 static size_t book_len, sheet_len, plan_len;
-static uint32_t number, a, b, c, token, value;
+static uint32_t number, a, b, c, token, value, job;
 static uint32_t table[25];
 static uint64_t start, end, times[11];
 
@@ -39,7 +39,7 @@ static void open_last(void) {
 static void step_all(void) {
     token = 0;
     start = 0;
-    while (tteokbiran_step(plan_words, plan_len / 4, 0, &token, &start, &value, &end))
+    while (tteokbiran_step(plan_words, plan_len / 4, 0, &token, &start, &value, &end, &job))
         ;
 }
 

@@ -5,9 +5,9 @@ use crate::layout::{Answer, Kind, LAST, N};
 use crate::placed::{Placed, Span};
 use crate::plan::Tokens;
 
-/// Where a term's time stands among the placed ones, the name it needs, and
-/// what to add. A time point stands at the 0 and adds itself. The end of the
-/// plan needs no name.
+/// Where a term's time or job stands among the placed ones, the name it needs,
+/// and what to add. A time point stands at the 0 and adds itself. The end of
+/// the plan needs no name.
 struct Term {
     place: usize,
     name: usize,
@@ -16,7 +16,9 @@ struct Term {
 
 impl Term {
     /// The kinds that there are.
-    const KINDS: std::ops::RangeInclusive<u32> = 0..=3;
+    const KINDS: std::ops::RangeInclusive<u32> = 0..=4;
+    /// Job of, which stands on both sides or on neither.
+    const JOB: u32 = 4;
 
     fn read(kind: u32, argument: u32, owner: &Owner) -> Option<Term> {
         if kind == 2 {
@@ -30,13 +32,15 @@ impl Term {
         let place = match kind {
             0 => Placed::start(name),
             1 => Placed::end(name),
+            Term::JOB => Placed::job(name),
             _ => return None,
         };
         Some(Term { place, name, add: 0 })
     }
 }
 
-/// Right minus left is at least lower and at most upper, as whole numbers.
+/// Right minus left is at least lower and at most upper, as whole numbers. Of
+/// two jobs both bounds are 0, so that holds exactly if they are equal.
 pub struct Atom {
     left: usize,
     right: usize,
@@ -54,12 +58,19 @@ impl Test for Atom {
             let argument = u32::from(Term::KINDS.contains(&r[at]));
             Term::read(r[at], r[at + 1], owner).ok_or(at as u32 + argument)
         };
-        let (left, right) = (term(0)?, term(2)?);
+        let left = term(0)?;
+        let jobs = r[0] == Term::JOB;
+        if jobs != (r[2] == Term::JOB) {
+            return Err(2);
+        }
+        let right = term(2)?;
         let (lower, upper) = (r[4], r[5]);
-        if lower > LAST {
+        if lower > if jobs { 0 } else { LAST } {
             return Err(4);
         }
-        if upper != N && !(lower..=LAST).contains(&upper) {
+        let upper_good =
+            if jobs { upper == 0 } else { upper == N || (lower..=LAST).contains(&upper) };
+        if !upper_good {
             return Err(5);
         }
         // What the terms add moves to the bounds, once for all.
@@ -79,7 +90,7 @@ impl Test for Atom {
 
     fn holds(&self, placed: &Placed) -> bool {
         // Signed: the right may come first.
-        let difference = placed.time(self.right) - placed.time(self.left);
+        let difference = placed.at(self.right) - placed.at(self.left);
         self.lower <= difference && difference <= self.upper
     }
 }

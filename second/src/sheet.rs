@@ -54,7 +54,7 @@ impl Test for Constraint {
     }
 
     fn holds(&self, placed: &Placed) -> bool {
-        let token = |t| (placed.time(Placed::start(t)), placed.time(Placed::end(t)));
+        let token = |t| (placed.at(Placed::start(t)), placed.at(Placed::end(t)));
         self.set >> relation(token(self.left), token(self.right)) & 1 == 1
     }
 }

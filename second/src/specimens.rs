@@ -4,6 +4,7 @@
 use crate::generate::draft::{alternative, plan_words, AlternativeDraft, Draft, NO_TRIGGER};
 use crate::layout::{Answer, Kind, LAST, N};
 
+pub mod jobs;
 mod plan_end;
 
 pub enum Call {
@@ -45,6 +46,9 @@ pub const E_SHEET: [u32; 43] = [
 ];
 pub const P1: [u32; 21] = [1, 21, 2, 0, 3, 3, 4, 0, 10, 1, 30, 0, 10, 0, 10, 1, 20, 0, 10, 1, 10];
 pub const P2: [u32; 19] = [1, 19, 2, 0, 2, 2, 4, 0, 10, 1, 40, 0, 10, 1, 20, 0, 10, 1, 10];
+/// P2 in edition 2.
+pub const P2_JOBS: [u32; 25] =
+    [2, 25, 2, 0, 2, 2, 4, 0, 10, 7, 1, 40, N, 0, 10, 0, 1, 20, 7, 0, 10, 0, 1, 10, 7];
 pub const EMPTY_PLAN: [u32; 7] = [1, 7, 2, 0, 0, 0, 0];
 /// What a sound book gets with a plan of no words.
 pub const SOUND: Answer = [5, 0, 0, 0];
@@ -96,6 +100,7 @@ pub fn all() -> Vec<Specimen> {
     list.extend(earliest());
     list.extend(wrong_words());
     list.extend(plan_end::all());
+    list.extend(jobs::all());
     list
 }
 

@@ -1,7 +1,7 @@
-use crate::generate::draft::{end, plan_words, AlternativeDraft, Draft, Lines, NO_TRIGGER};
+use crate::generate::draft::{end, plan_words, AlternativeDraft, Draft, Plan, NO_TRIGGER};
 use crate::generate::random::{pair, SMALL};
 use crate::generate::rng::Rng;
-use crate::generate::{extreme, load, plan_end, slow};
+use crate::generate::{extreme, jobs, load, plan_end, slow};
 use crate::layout::{Answer, Kind, LAST, N};
 use crate::specimens::{all, with, Call, E, EMPTY_PLAN, E_SHEET, P1, P2};
 use crate::words::to_bytes;
@@ -185,9 +185,12 @@ fn sums_past_32_bits_are_refused() {
 
 #[test]
 fn largest_inputs_pass() {
-    let (book, plan) = extreme::largest(Kind::Book);
+    let (book, plan) = extreme::largest(Kind::Book, 1);
     assert_eq!((book.len(), plan.len()), (16_384, 16_383));
     assert_eq!(judge(&book, &plan), [0, 0, 0, 0]);
+    let (_, with_jobs) = extreme::largest(Kind::Book, 2);
+    assert_eq!(with_jobs.len(), 3 + 32 + 3 * 5_449);
+    assert_eq!(judge(&book, &with_jobs), [0, 0, 0, 0]);
     let sheet = load::largest_sheet();
     let mut room = vec![0; 16_384];
     assert_eq!(translate(&sheet, &mut room), [0, 16_384, 888, 0]);
@@ -211,6 +214,10 @@ fn what_is_measured_reaches_the_rules() {
             let rules = book[6];
             assert_eq!(by(kind, (book, plan)), [0, 8 * rules, 0, 0], "{}", one.name);
         }
+    }
+    let answers = [[0, 8, 0, 0], [0, 8, 0, 0], [12, 0, 0, 0]];
+    for ((row, one), expected) in jobs::SLOW.iter().zip(answers) {
+        assert_eq!(by(Kind::Book, (one.make)(Kind::Book, 8)), expected, "row {row}");
     }
     for one in slow::SHEETS {
         assert_eq!(by(Kind::Sheet, (one.make)(Kind::Sheet, 8)), [12, 0, 0, 0], "{}", one.name);
@@ -236,7 +243,7 @@ fn a_reader_hands_out_the_line_and_then_no_more() {
     let mut at = Position { line: 1, token: 0, start: 0 };
     for (value, start, end) in [(0, 0, 10), (1, 10, 30), (0, 30, 40), (1, 40, 50)] {
         let (seen, next) = step(&P2, at).expect("a token");
-        assert_eq!(seen, Seen { value, start, end });
+        assert_eq!(seen, Seen { value, start, end, job: 0 });
         assert_eq!(next, Position { line: 1, token: at.token + 1, start: end });
         at = next;
     }
@@ -260,19 +267,20 @@ fn a_step_takes_any_words_and_any_position() {
 }
 
 /// All tests at the end of each choice, and every choice tried.
-fn slow_answer(draft: &Draft, lines: &Lines) -> Answer {
-    let ends: Vec<u32> = lines.iter().map(|line| end(line)).collect();
+fn slow_answer(draft: &Draft, plan: &Plan) -> Answer {
+    let ends: Vec<u32> = plan.lines.iter().map(|line| end(line)).collect();
     if let Some(line) = (1..ends.len()).find(|&line| ends[line] != ends[0]) {
         return [18, line as u32, 0, 0];
     }
     let mut examined = 0;
-    let tokens = |name: [u32; 2]| -> Vec<(i64, i64, u32)> {
+    let tokens = |name: [u32; 2]| -> Vec<[i64; 4]> {
         let mut start = 0;
         let mut out = Vec::new();
-        for (i, token) in lines[name[0] as usize].iter().enumerate() {
+        let line = name[0] as usize;
+        for (i, token) in plan.lines[line].iter().enumerate() {
             let end = start + i64::from(token[1]);
             if token[0] == name[1] {
-                out.push((start, end, i as u32));
+                out.push([start, end, i64::from(plan.job(line, i)), i as i64]);
             }
             start = end;
         }
@@ -280,14 +288,14 @@ fn slow_answer(draft: &Draft, lines: &Lines) -> Answer {
     };
     for (number, rule) in draft.rules.iter().enumerate() {
         let triggers = match rule.trigger {
-            NO_TRIGGER => vec![(0, 0, 0)],
+            NO_TRIGGER => vec![[0; 4]],
             trigger => tokens(trigger),
         };
         for trigger in triggers {
             let met = rule.alternatives.iter().any(|a| {
                 let mut choices = vec![vec![trigger]];
                 for &name in &a.names {
-                    let longer = |c: &Vec<(i64, i64, u32)>| {
+                    let longer = |c: &Vec<[i64; 4]>| {
                         let one = |t| [c.clone(), vec![t]].concat();
                         tokens(name).into_iter().map(one).collect::<Vec<_>>()
                     };
@@ -296,7 +304,7 @@ fn slow_answer(draft: &Draft, lines: &Lines) -> Answer {
                 choices.iter().any(|c| a.tests.iter().all(|t| slow_test(t, c, ends[0])))
             });
             if !met {
-                return [12, number as u32, trigger.2, 0];
+                return [12, number as u32, trigger[3] as u32, 0];
             }
             examined += 1;
         }
@@ -304,12 +312,16 @@ fn slow_answer(draft: &Draft, lines: &Lines) -> Answer {
     [0, examined, 0, 0]
 }
 
-fn slow_test(test: &[u32], chosen: &[(i64, i64, u32)], plan_end: u32) -> bool {
+/// A choice has start, end, job and number of the trigger and of each name.
+fn slow_test(test: &[u32], chosen: &[[i64; 4]], plan_end: u32) -> bool {
+    let job = |argument: u32| chosen[argument as usize][2];
+    if test[0] == 4 {
+        return job(test[1]) == job(test[3]);
+    }
     let time = |kind: u32, argument: u32| match kind {
-        0 => chosen[argument as usize].0,
-        1 => chosen[argument as usize].1,
         2 => i64::from(argument),
-        _ => i64::from(plan_end),
+        3 => i64::from(plan_end),
+        _ => chosen[argument as usize][kind as usize],
     };
     let difference = time(test[2], test[3]) - time(test[0], test[1]);
     difference >= i64::from(test[4]) && (test[5] == N || difference <= i64::from(test[5]))
@@ -320,9 +332,9 @@ fn the_search_agrees_with_trying_everything() {
     let [mut met, mut apart] = [0; 2];
     for case in 0..3_000 {
         let mut rng = Rng::new(5, case);
-        let (draft, lines) = pair(&mut rng, Kind::Book, SMALL);
-        let answer = judge(&draft.words(), &plan_words(&lines));
-        assert_eq!(answer, slow_answer(&draft, &lines), "case {case}");
+        let (draft, plan) = pair(&mut rng, Kind::Book, SMALL);
+        let answer = judge(&draft.words(), &plan.words());
+        assert_eq!(answer, slow_answer(&draft, &plan), "case {case}");
         met += u32::from(answer[0] == 0 && answer[1] > 0);
         apart += u32::from(answer[0] == 18);
     }
@@ -336,7 +348,8 @@ fn the_end_of_the_plan_decides() {
     for case in 0..3_000 {
         let (draft, lines) = plan_end::case(&mut Rng::new(8, case));
         let answer = judge(&draft.words(), &plan_words(&lines));
-        assert_eq!(answer, slow_answer(&draft, &lines), "case {case}");
+        let plan = Plan { lines: lines.clone(), jobs: None };
+        assert_eq!(answer, slow_answer(&draft, &plan), "case {case}");
         let free = judge(&plan_end::without(&draft).words(), &plan_words(&lines));
         met += u32::from(answer[0] == 0 && answer[1] > 0);
         failed += u32::from(answer[0] == 12 && free[0] == 0);
@@ -345,12 +358,26 @@ fn the_end_of_the_plan_decides() {
 }
 
 #[test]
+fn jobs_decide() {
+    let [mut met, mut failed] = [0; 2];
+    for case in 0..3_000 {
+        let (draft, plan) = jobs::case(&mut Rng::new(9, case));
+        let answer = judge(&draft.words(), &plan.words());
+        assert_eq!(answer, slow_answer(&draft, &plan), "case {case}");
+        let free = judge(&jobs::without(&draft).words(), &plan.words());
+        met += u32::from(answer[0] == 0 && answer[1] > 0);
+        failed += u32::from(answer[0] == 12 && free[0] == 0);
+    }
+    assert!(met > 300 && failed > 300, "{met} were met, {failed} failed by a job");
+}
+
+#[test]
 fn a_translated_sheet_judges_as_the_sheet_does() {
     let mut done = 0;
     for case in 0..3_000 {
         let mut rng = Rng::new(6, case);
-        let (draft, lines) = pair(&mut rng, Kind::Sheet, SMALL);
-        let (sheet, plan) = (draft.words(), plan_words(&lines));
+        let (draft, plan) = pair(&mut rng, Kind::Sheet, SMALL);
+        let (sheet, plan) = (draft.words(), plan.words());
         let mut room = vec![0; 16_384];
         let answer = translate(&sheet, &mut room);
         if answer[0] == 0 {

@@ -12,11 +12,11 @@ use Rattle.words.specs.Words.{word}
 use Rattle.words.specs.Lists.{All, all-get}
 use Rattle.clock.specs.Clock.{noLimit}
 use Rattle.layout.specs.Layout.{fewest, most, count, offset, begins, headerWrong, recordAt, field}
-use Rattle.layout.proofs.Tests.{plain}
+use Rattle.layout.proofs.Tests.{or-right, plain}
 use Rattle.layout.proofs.Bounds.{tables}
-use Rattle.records.specs.Wrong.{Range, valueRange, alternativeRange, nameRange, askRange, startWrong, numberWrong, lowerWrong, upperWrong, setWrong, variableUnknown, valueUnknown, triggerVariableWrong, triggerValueWrong, tokenWrong, kindWrong, argumentWrong, variableTests, valueTests, ruleTests, alternativeTests, nameTests, atomTests, constraintTests, fifthTestsOf, fifthTests, recordTests}
+use Rattle.records.specs.Wrong.{Range, valueRange, alternativeRange, nameRange, askRange, startWrong, numberWrong, lowerWrong, upperWrong, setWrong, variableUnknown, valueUnknown, triggerVariableWrong, triggerValueWrong, tokenWrong, kindWrong, rightKindWrong, argumentWrong, jobBoundWrong, variableTests, valueTests, ruleTests, alternativeTests, nameTests, atomTests, constraintTests, fifthTestsOf, fifthTests, recordTests}
 use Rattle.book.specs.Fault.{leaves}
-use Rattle.book.specs.Sound.{RangeSound, BoundsSound, Exist, TokenSound, TermSound, VariableSound, ValueSound, RuleSound, AlternativeSound, NameSound, namesAt, triggerAt, AtomSound, ConstraintSound, HeaderSound, Sound}
+use Rattle.book.specs.Sound.{RangeSound, BoundsSound, Exist, TokenSound, TermSound, JobSound, VariableSound, ValueSound, RuleSound, AlternativeSound, NameSound, namesAt, triggerAt, AtomSound, ConstraintSound, HeaderSound, Sound}
 use Rattle.book.proofs.Good.{Good}
 
 -- ---- each group of tests, in plain numbers and back
@@ -70,9 +70,26 @@ term-right : (n : ℕ) (trigger : Bool) (kind x : ℕ)
 term-right n trigger kind x = (
   λ h.
       let p = simp (token-right, plain) at h in
-      record { kinds = omega arith; point = λ q. omega (arith, p .1 .0 q); last = p .1 .1 .0; token = p .1 .1 .1 },
-  λ s. simp (token-right, plain) (omega arith, (λ q. omega (arith, s .point q), (s .last, s .token))),
+      record { kinds = omega arith; point = λ q. omega (arith, p .1 .0 q); last = p .1 .1 .0; token = p .1 .1 .1 .0; job = p .1 .1 .1 .1 },
+  λ s. simp (token-right, plain) (omega arith, (λ q. omega (arith, s .point q), (s .last, (s .token, s .job)))),
 )
+
+-- jobs on both sides or on neither, and their bounds
+job-right : (left right lower upper : ℕ)
+    → ((rightKindWrong left right ≡ false) × (jobBoundWrong left lower ≡ false) × (jobBoundWrong left upper ≡ false))
+    ↔ ((kindWrong right ≡ false) × JobSound left right lower upper)
+job-right left right lower upper = (
+  λ h.
+      let p = simp plain at h in
+      (simp plain (p .0 .0), record { both = p .0 .1 .0; back = λ q. either (ℕ-discrete left 4) (λ n. p .0 .1 .1 n q); low = p .1; high = p .2 }),
+  λ s.
+      let k = simp plain at (s .0) in
+      simp plain ((k, (s .1 .both, λ n q. n (s .1 .back q))), s .1 .low, s .1 .high),
+)
+  where
+    either : Dec (left ≡ 4) → ((left ≡ 4 → ⊥) → ⊥) → left ≡ 4
+    either (yes q) f = q
+    either (no n) f = absurd (f n)
 
 -- ---- the words of each table's record, in plain numbers and back
 
@@ -129,13 +146,20 @@ module _ (b : List ℕ) (at n : ℕ) (trigger : Bool) where
   atom-right =
       let l = term-right n trigger (word b at) (word b (at + 1)) in
       let r = term-right n trigger (word b (at + 2)) (word b (at + 3)) in
-      let d = bounds-right 0 (word b (at + 4)) (word b (at + 5)) in (
-        λ h. record { left = l .0 (h 0, h 1); right = r .0 (h 2, h 3); bounds = d .0 (h 4, h 5) },
+      let d = bounds-right 0 (word b (at + 4)) (word b (at + 5)) in
+      let j = job-right (word b at) (word b (at + 2)) (word b (at + 4)) (word b (at + 5)) in (
+        λ h.
+            let low = or-right _ _ .0 (h 4) in
+            let high = or-right _ _ .0 (h 5) in
+            let k = j .0 (h 2, low .1, high .1) in
+            record { left = l .0 (h 0, h 1); right = r .0 (k .0, h 3); bounds = d .0 (low .0, high .0); jobs = k .1 },
         λ s.
             let p = l .1 (s .left) in
             let q = r .1 (s .right) in
             let x = d .1 (s .bounds) in
-            listed (atomTests b at n trigger) (p .0, (p .1, (q .0, (q .1, (x .0, (x .1, tt)))))),
+            let k = j .1 (q .0, s .jobs) in
+            listed (atomTests b at n trigger)
+            (p .0, (p .1, (k .0, (q .1, (or-right _ _ .1 (x .0, k .1), (or-right _ _ .1 (x .1, k .2), tt)))))),
       )
 
   constraint-right : Right (constraintTests b at n trigger) ↔ ConstraintSound b at n trigger

@@ -98,7 +98,7 @@ specimens =
     ∷ (1, set bookE 38 2, numbersAt 4 4 0 0)
     ∷ (1, set bookE 39 2, numbersAt 4 4 0 1)
     -- atoms: kind, argument, trigger, bounds
-    ∷ (1, set bookE 40 4, numbersAt 4 5 0 0)
+    ∷ (1, set bookE 40 5, numbersAt 4 5 0 0)
     ∷ (1, set bookE 47 2, numbersAt 4 5 1 1)
     ∷ (1, freeE, numbersAt 4 5 0 3)
     ∷ (1, set bookE 46 2, noFault)
@@ -109,6 +109,15 @@ specimens =
     ∷ (1, puts bookE 40 (3 ∷ 0 ∷ 3 ∷ 0 ∷ []), noFault)
     ∷ (1, puts bookE 40 (3 ∷ 1 ∷ []), numbersAt 4 5 0 1)
     ∷ (1, puts bookE 42 (3 ∷ 1 ∷ []), numbersAt 4 5 0 3)
+    -- "kind 4, job of": on both sides with 0 and 0; on one side the right kind is wrong; the arguments; the bounds
+    ∷ (1, puts bookE 40 (4 ∷ 1 ∷ 4 ∷ 0 ∷ 0 ∷ 0 ∷ []), noFault)
+    ∷ (1, puts bookE 40 (4 ∷ 1 ∷ 0 ∷ 0 ∷ 0 ∷ 0 ∷ []), numbersAt 4 5 0 2)
+    ∷ (1, puts bookE 40 (0 ∷ 1 ∷ 4 ∷ 0 ∷ 0 ∷ 0 ∷ []), numbersAt 4 5 0 2)
+    ∷ (1, puts bookE 40 (4 ∷ 2 ∷ 0 ∷ 0 ∷ 0 ∷ 0 ∷ []), numbersAt 4 5 0 1)
+    ∷ (1, puts bookE 40 (4 ∷ 1 ∷ 4 ∷ 2 ∷ 0 ∷ 0 ∷ []), numbersAt 4 5 0 3)
+    ∷ (1, puts bookE 40 (4 ∷ 1 ∷ 4 ∷ 0 ∷ 1 ∷ 1 ∷ []), numbersAt 4 5 0 4)
+    ∷ (1, puts bookE 40 (4 ∷ 1 ∷ 4 ∷ 0 ∷ 0 ∷ noLimit ∷ []), numbersAt 4 5 0 5)
+    ∷ (1, puts freeE 40 (4 ∷ 1 ∷ 4 ∷ 0 ∷ 0 ∷ 0 ∷ []), numbersAt 4 5 0 3)
     -- constraints: token, set
     ∷ (2, set sheetE 41 2, numbersAt 4 5 0 1)
     ∷ (2, set sheetE 42 0, numbersAt 4 5 0 2)

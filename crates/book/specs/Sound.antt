@@ -36,12 +36,20 @@ pub record TokenSound (n : ℕ) (trigger : Bool) (x : ℕ) : Type 0 where
   pub triggered : x ≡ 0 → trigger ≡ true
 
 -- "A term's kind is 0 start of, 1 end of, 2 time point. For 0 and 1 the argument is" a token. "A time point is 0..1,000,000,000". And
--- "kind 3, end of the plan, argument 0"
+-- "kind 3, end of the plan, argument 0", "kind 4, job of (argument as in kind 0)"
 pub record TermSound (n : ℕ) (trigger : Bool) (kind argument : ℕ) : Type 0 where
-  pub kinds : kind ≤ 3
+  pub kinds : kind ≤ 4
   pub point : kind ≡ 2 → argument ≤ lastTick
   pub last : kind ≡ 3 → argument ≡ 0
   pub token : kind < 2 → TokenSound n trigger argument
+  pub job : kind ≡ 4 → TokenSound n trigger argument
+
+-- kind 4 "stands on both sides of an atom or on neither .. and its bounds must be 0 and 0"
+pub record JobSound (left right lower upper : ℕ) : Type 0 where
+  pub both : left ≡ 4 → right ≡ 4
+  pub back : right ≡ 4 → left ≡ 4
+  pub low : left ≡ 4 → lower ≡ 0
+  pub high : left ≡ 4 → upper ≡ 0
 
 -- ---- the records of each table
 
@@ -81,6 +89,7 @@ pub record AtomSound (b : List ℕ) (at n : ℕ) (trigger : Bool) : Type 0 where
   pub left : TermSound n trigger (word b at) (word b (at + 1))
   pub right : TermSound n trigger (word b (at + 2)) (word b (at + 3))
   pub bounds : BoundsSound 0 (word b (at + 4)) (word b (at + 5))
+  pub jobs : JobSound (word b at) (word b (at + 2)) (word b (at + 4)) (word b (at + 5))
 
 -- "left token, right token (0 the trigger, as above), and a set, 1..8,191"
 pub record ConstraintSound (b : List ℕ) (at n : ℕ) (trigger : Bool) : Type 0 where

@@ -13,7 +13,7 @@ use Rattle.words.specs.Lists.{any, all}
 use Rattle.book.specs.Rules.{Name, Alternative, Rule}
 use Rattle.lines.specs.declared.Token.{Token}
 use Rattle.lines.specs.Ends.{planEnd}
-use Rattle.choice.specs.Met.{Choice, nobody, timePlace, triggered, put, tokenTime, endTime, place, alternativeMet, met}
+use Rattle.choice.specs.Met.{Choice, nobody, timePlace, jobPlace, triggered, put, tokenTime, tokenJob, endTime, place, alternativeMet, met}
 pub use Rattle.choice.specs.Exists.{Among, Serves, chosen, choiceOf, noName, Meets, Met, Placed}
 
 -- ---- laws of tests over a list
@@ -69,7 +69,7 @@ module _ {A : Type 0} where
 
 module _ (lines : ℕ → List Token) (p : Choice → Bool) where
   placed-more : (n : Name) (ns : List Name) (k : ℕ) (c : Choice) (t : Token) (ts : List Token) → Serves lines n t
-      → Placed lines p ns (k + 1) (put c k (t .start .tick) (t .end .tick)) ts → Placed lines p (n ∷ ns) k c (t ∷ ts)
+      → Placed lines p ns (k + 1) (put c k (t .start .tick) (t .end .tick) (t .job)) ts → Placed lines p (n ∷ ns) k c (t ∷ ts)
   unfolding chosen
   placed-more n ns k c t ts s q = record { each = ap suc (q .each); serve = serve; pass = q .pass }
     where
@@ -84,7 +84,7 @@ module _ (lines : ℕ → List Token) (p : Choice → Bool) where
       let s = any-some _ (lines (n .variable)) h in
       let t = s .0 in
       let b = and-both (eqb (t .value) (n .value)) _ (s .2) in
-      let q = placed-of ns (k + 1) (put c k (t .start .tick) (t .end .tick)) (b .1) in
+      let q = placed-of ns (k + 1) (put c k (t .start .tick) (t .end .tick) (t .job)) (b .1) in
       (t ∷ q .0, placed-more n ns k c t (q .0) (record { variable = s .1; value = eqb-true _ _ (b .0) }) (q .1))
 
   pub of-placed : (ns : List Name) (k : ℕ) (c : Choice) (ts : List Token) → Placed lines p ns k c ts → place lines p ns k c ≡ true
@@ -94,10 +94,10 @@ module _ (lines : ℕ → List Token) (p : Choice → Bool) where
   of-placed (n ∷ ns) k c [] q = absurd (omega (arith, q .each))
   of-placed (n ∷ ns) k c (t ∷ ts) q =
       let s = q .serve 0 (omega arith) in
-      let rest : Placed lines p ns (k + 1) (put c k (t .start .tick) (t .end .tick)) ts =
+      let rest : Placed lines p ns (k + 1) (put c k (t .start .tick) (t .end .tick) (t .job)) ts =
       record { each = omega (arith, q .each); serve = λ i l. q .serve (suc i) (omega arith); pass = q .pass } in
       some-any _ (lines (n .variable)) t (s .variable)
-      (rw (eq-eqb _ _ (s .value)) (of-placed ns (k + 1) (put c k (t .start .tick) (t .end .tick)) ts rest))
+      (rw (eq-eqb _ _ (s .value)) (of-placed ns (k + 1) (put c k (t .start .tick) (t .end .tick) (t .job)) ts rest))
 
 -- ---- the theorems
 
@@ -133,20 +133,25 @@ module _ {C : Type 0} (holds : Choice → C → Bool) (lines : ℕ → List Toke
 
 -- ---- which times the choice has
 
--- the plan's end, and start and end of five tokens, and nobody's where there are fewer
+-- the plan's end, and start, end and job of five tokens, and nobody's where there are fewer
 abbrev laid : ℕ → List Token → Choice
 laid last l =
     last
     ∷ getD l 0 nobody .start .tick
     ∷ getD l 0 nobody .end .tick
+    ∷ getD l 0 nobody .job
     ∷ getD l 1 nobody .start .tick
     ∷ getD l 1 nobody .end .tick
+    ∷ getD l 1 nobody .job
     ∷ getD l 2 nobody .start .tick
     ∷ getD l 2 nobody .end .tick
+    ∷ getD l 2 nobody .job
     ∷ getD l 3 nobody .start .tick
     ∷ getD l 3 nobody .end .tick
+    ∷ getD l 3 nobody .job
     ∷ getD l 4 nobody .start .tick
     ∷ getD l 4 nobody .end .tick
+    ∷ getD l 4 nobody .job
     ∷ []
 
 choice-laid : (last : ℕ) (t : Token) (ts : List Token) → length ts ≤ 4 → choiceOf last t ts ≡ laid last (t ∷ ts)
@@ -158,26 +163,37 @@ choice-laid last t (a ∷ (b ∷ (c ∷ []))) l = refl
 choice-laid last t (a ∷ (b ∷ (c ∷ (d ∷ [])))) l = refl
 choice-laid last t (a ∷ (b ∷ (c ∷ (d ∷ (e ∷ ts))))) l = absurd (omega arith)
 
-laid-time : (last : ℕ) (l : List Token) (k : ℕ) → length l ≤ 5
-    → (tokenTime (laid last l) 0 k ≡ getD l k nobody .start .tick) × (tokenTime (laid last l) 1 k ≡ getD l k nobody .end .tick)
-unfolding tokenTime
-laid-time last l zero h = (refl, refl)
-laid-time last l (suc zero) h = (refl, refl)
-laid-time last l (suc (suc zero)) h = (refl, refl)
-laid-time last l (suc (suc (suc zero))) h = (refl, refl)
-laid-time last l (suc (suc (suc (suc zero)))) h = (refl, refl)
-laid-time last l (suc (suc (suc (suc (suc k))))) h =
+-- the numbers of the token that an argument names
+record Named (c : Choice) (k : ℕ) (t : Token) : Type 0 where
+  start : tokenTime c 0 k ≡ t .start .tick
+  end : tokenTime c 1 k ≡ t .end .tick
+  job : tokenJob c k ≡ t .job
+
+laid-named : (last : ℕ) (l : List Token) (k : ℕ) → length l ≤ 5 → Named (laid last l) k (getD l k nobody)
+unfolding tokenTime tokenJob
+laid-named last l zero h = record { start = refl; end = refl; job = refl }
+laid-named last l (suc zero) h = record { start = refl; end = refl; job = refl }
+laid-named last l (suc (suc zero)) h = record { start = refl; end = refl; job = refl }
+laid-named last l (suc (suc (suc zero))) h = record { start = refl; end = refl; job = refl }
+laid-named last l (suc (suc (suc (suc zero)))) h = record { start = refl; end = refl; job = refl }
+laid-named last l (suc (suc (suc (suc (suc k))))) h =
     let j = suc (suc (suc (suc (suc k)))) in
-    let past = List·getD-eq-default l nobody {n = j} (omega arith) in (
-      List·getD-eq-default (laid last l) 0 {n = timePlace 0 j} (omega arith) ∙ ap (λ (t : Token). t .start .tick) (sym past),
-      List·getD-eq-default (laid last l) 1 {n = timePlace 1 j} (omega arith) ∙ ap (λ (t : Token). t .end .tick) (sym past),
-    )
+    rw (List·getD-eq-default l nobody {n = j} (omega arith))
+    (record {
+      start = List·getD-eq-default (laid last l) 0 {n = timePlace 0 j} (omega arith);
+      end = List·getD-eq-default (laid last l) 1 {n = timePlace 1 j} (omega arith);
+      job = List·getD-eq-default (laid last l) 0 {n = jobPlace j} (omega arith);
+    })
 
 -- the start and the end that an argument names are those of its token: "0 for the trigger or 1..n for the alternative's names"
 pub choice-time : (last : ℕ) (t : Token) (ts : List Token) (k : ℕ) → length ts ≤ 4
     → (tokenTime (choiceOf last t ts) 0 k ≡ getD (t ∷ ts) k nobody .start .tick)
     × (tokenTime (choiceOf last t ts) 1 k ≡ getD (t ∷ ts) k nobody .end .tick)
-choice-time last t ts k h = rw (choice-laid last t ts h) (laid-time last (t ∷ ts) k (omega arith))
+choice-time last t ts k h = let n = laid-named last (t ∷ ts) k (omega arith) in rw (choice-laid last t ts h) (n .start, n .end)
+
+-- so is the job
+pub choice-job : (last : ℕ) (t : Token) (ts : List Token) (k : ℕ) → length ts ≤ 4 → tokenJob (choiceOf last t ts) k ≡ getD (t ∷ ts) k nobody .job
+choice-job last t ts k h = rw (choice-laid last t ts h) (laid-named last (t ∷ ts) k (omega arith) .job)
 
 -- and the end of the plan is that of the choice
 pub choice-end : (last : ℕ) (t : Token) (ts : List Token) → length ts ≤ 4 → endTime (choiceOf last t ts) ≡ last

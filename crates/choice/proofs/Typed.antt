@@ -44,7 +44,7 @@ unfolding place
 place-same lines p q h [] k c = h c
 place-same lines p q h (n ∷ ns) k c =
     any-same _ _
-    (λ (t : Token). ap (λ (x : Bool). eqb (t .value) (n .value) && x) (place-same lines p q h ns (k + 1) (put c k (t .start .tick) (t .end .tick))))
+    (λ (t : Token). ap (λ (x : Bool). eqb (t .value) (n .value) && x) (place-same lines p q h ns (k + 1) (put c k (t .start .tick) (t .end .tick) (t .job))))
     (lines (n .variable))
 
 -- ---- the theorem

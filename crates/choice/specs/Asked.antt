@@ -1,20 +1,23 @@
 -- What the contracts of the search cite: the decoded meaning under short names, with the code's places for arguments. What an alternative
 -- asks is named by its place in table 5, so that a book and a sheet share all of it but `askHolds`. Assumes nothing.
-use mathlib.Core.Bool.{Bool, _&&_, _||_, not, cond}
+use mathlib.Core.Path.{_≡_}
+use mathlib.Core.Bool.{Bool, true, false, _&&_, _||_, not, cond}
+use mathlib.Core.Logic.{_⊎_}
 use mathlib.Core.List.{List, []}
-use Prim.Native.Nat.{ℕ, _+_, _*_}
+use Prim.Native.Nat.{ℕ, _+_, _*_, _<_}
 use lib.Dec.{eqb, leb, ltb}
+use lib.ListN.{length}
 use Rattle.words.specs.Lists.{any, all}
 use Rattle.words.specs.Runs.{run}
 use Rattle.words.specs.Words.{word}
 use Rattle.layout.specs.Layout.{fifthWidth, offset}
 use Rattle.book.specs.Rules.{Fifth, nameAt, atomAt, constraintAt, alternativeAt}
 use Rattle.lines.specs.declared.Token.{Token}
-use Rattle.lines.specs.Lines.{lineOf, lineCount, linePlace}
+use Rattle.lines.specs.Lines.{tokenWidth, lineOf, lineCount, linePlace}
 use Rattle.lines.specs.Ends.{planEnd}
 use Rattle.choice.specs.declared.Tokens.{Tokens}
 use Rattle.choice.specs.declared.Alternative.{Alternative}
-use Rattle.choice.specs.Met.{Choice, atomHolds, constraintHolds, place, alternativeMet, triggered}
+use Rattle.choice.specs.Met.{Choice, choiceSize, put, tokenJob, atomHolds, constraintHolds, place, alternativeMet, triggered}
 
 -- table 5 read by place alone
 abbrev pub places : ℕ → Fifth ℕ
@@ -50,11 +53,15 @@ metAt e b p t n at = any (alternativeMet (askHolds e b) (lineOf p) (triggeredIn 
 unfoldable pub termPlaced : ℕ → ℕ → ℕ → Bool
 termPlaced kind x j = (eqb kind 2 || eqb kind 3) || (ltb kind 2 && leb x j)
 
--- and so is all that an atom, or a constraint, names
+-- and so are an atom's two terms
+unfoldable pub termsPlaced : List ℕ → ℕ → ℕ → Bool
+termsPlaced b at j = termPlaced (word b at) (word b (at + 1)) j && termPlaced (word b (at + 2)) (word b (at + 3)) j
+
+-- all that a constraint, an atom of jobs, or another atom names
 unfoldable pub askPlaced : ℕ → List ℕ → ℕ → ℕ → Bool
 askPlaced e b at j =
-    cond (eqb e 2) (termPlaced 0 (word b at) j && termPlaced 0 (word b (at + 1)) j)
-    (termPlaced (word b at) (word b (at + 1)) j && termPlaced (word b (at + 2)) (word b (at + 3)) j)
+    cond (eqb e 2) (leb (word b at) j && leb (word b (at + 1)) j)
+    (cond (eqb (word b at) 4) (leb (word b (at + 1)) j && leb (word b (at + 3)) j) (termsPlaced b at j))
 
 -- what stands at a place holds, or can't be tested yet; with all names placed each is tested
 unfoldable pub askPasses : List ℕ → Alternative → Choice → ℕ → ℕ → Bool
@@ -64,11 +71,34 @@ askPasses b a c j at = ltb j (a .names) && not (askPlaced (a .edition) b at j) |
 unfoldable pub holdSoFar : List ℕ → Alternative → Choice → ℕ → ℕ → ℕ → Bool
 holdSoFar b a c j m at = all (askPasses b a c j) (run (places (a .edition) .read b) (fifthWidth (a .edition)) m at)
 
+-- ---- which job is asked for
+
+-- the ask at a place is an atom of jobs that ties name number k to the trigger or to a name before it, which has this job
+pub record TiedAt (b : List ℕ) (c : Choice) (k at : ℕ) (tied : Bool) (job : ℕ) : Type 0 where
+  pub jobs : tied ≡ true → word b at ≡ 4
+  pub other : tied ≡ true
+      → ((word b (at + 1) ≡ k) × (word b (at + 3) < k) × (job ≡ tokenJob c (word b (at + 3))))
+      ⊎ ((word b (at + 3) ≡ k) × (word b (at + 1) < k) × (job ≡ tokenJob c (word b (at + 1))))
+
+-- name number k is tied to a job by what an alternative asks: a token of another job for it fails as soon as it is put
+pub record Tied (b : List ℕ) (a : Alternative) (c : Choice) (k : ℕ) (tied : Bool) (job : ℕ) : Type 0 where
+  pub only : tied ≡ true → length c ≡ choiceSize
+      → (start end other : ℕ) → holdSoFar b a (put c k start end other) k (a .asks) (a .ask) ≡ true → other ≡ job
+
 -- ---- what the functions that read a record give
 
--- the value that the name at a place asks for, and the tokens of its line
+-- the value that the name at a place asks for, and the tokens of its line; no job is asked for
 abbrev pub tokensOf : List ℕ → List ℕ → ℕ → Tokens
-tokensOf b p name = record { value = word b (name + 1); count = lineCount p (word b name); place = linePlace p (word b name); start = 0 }
+tokensOf b p name =
+    record {
+      value = word b (name + 1);
+      tied = false;
+      job = 0;
+      width = tokenWidth p;
+      count = lineCount p (word b name);
+      place = linePlace p (word b name);
+      start = 0;
+    }
 
 -- where the names and the asks of an alternative are, and how many
 abbrev pub alternativeOf : ℕ → List ℕ → ℕ → Alternative

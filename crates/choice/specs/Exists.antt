@@ -22,10 +22,10 @@ pub record Serves (lines : ℕ → List Token) (n : Name) (t : Token) : Type 0 w
   pub variable : Among t (lines (n .variable))
   pub value : t .value ≡ n .value
 
--- the choice c with the times of tokens put to its places k, k + 1, ..
+-- the choice c with the times and jobs of tokens put to its places k, k + 1, ..
 unfoldable pub chosen : Choice → ℕ → List Token → Choice
 chosen c k [] = c
-chosen c k (t ∷ ts) = chosen (put c k (t .start .tick) (t .end .tick)) (k + 1) ts
+chosen c k (t ∷ ts) = chosen (put c k (t .start .tick) (t .end .tick) (t .job)) (k + 1) ts
 
 -- the choice of the trigger token t and of tokens for the names, in their order, in a plan that ends at `end`
 unfoldable pub choiceOf : ℕ → Token → List Token → Choice

@@ -20,7 +20,7 @@ use Rattle.book.specs.Fault.{lowest, toldWord}
 use Rattle.book.specs.Rules.{Rule, rulesOf}
 use Rattle.book.specs.Encode.{atoms, constraints}
 use Rattle.book.specs.Fault as book
-use Rattle.lines.specs.Lines.{lineOf}
+use Rattle.lines.specs.Lines.{tokenWidth, lineOf}
 use Rattle.lines.specs.Ends.{firstApart, endsFault}
 use Rattle.plan.specs.Fault as plan
 use Rattle.choice.specs.Met.{Choice, atomHolds, constraintHolds}
@@ -112,7 +112,7 @@ module _ (e : ℕ) (b p : List ℕ) where
         (next _ _ (given (ltb t 6) _ (bookRecord t (lowest e b t) (toldWord e b t (lowest e b t))))
         (next _ _ (given (ltb (length p) (3 + 2 * count b 0) || ltb 16384 (length p)) _ planLength)
         (next _ _ (given (ltb h (3 + 2 * count b 0)) _ (planHeader h))
-        (next _ _ (ended (eqb (3 + 2 * count b 0 + 2 * plan.sumBefore p (count b 0)) (length p)) _ planEnd)
+        (next _ _ (ended (eqb (3 + 2 * count b 0 + tokenWidth p * plan.sumBefore p (count b 0)) (length p)) _ planEnd)
         (next _ _ tokens-listed
         (next _ _ (given (ltb v (count b 0)) _ (apart v))
         (settled (ltb a (length rules)) a (firstUnmet holds (lineOf p) (getD rules a noRule)) (examined (lineOf p) rules)))))))))))

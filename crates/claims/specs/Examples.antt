@@ -11,13 +11,14 @@ use borrow.Author.Tests.{eqb-true}
 use Rattle.answers.specs.declared.Numbers.{Numbers}
 use Rattle.answers.specs.Numbers.{numbersAt, numbers}
 use Rattle.words.specs.Lists.{all, All}
+use Rattle.clock.specs.Clock.{noLimit}
 use Rattle.book.specs.Rules.{rulesOf}
 use Rattle.book.specs.Encode.{atoms, constraints}
 use Rattle.book.proofs.Specimen.{bookE, sheetE, same}
 use Rattle.lines.specs.Lines.{lineOf}
 use Rattle.verdict.specs.Judged.{judged, judgedSheet}
 use Rattle.translator.specs.Translation.{translation}
-use Rattle.claims.specs.Specimens.{planP1, planP2, emptyPlan, freeBook, freeNamed, truckBook, Specimen, stretches, stands, specimens, all-stand}
+use Rattle.claims.specs.Specimens.{planP1, planP2, emptyPlan, freeBook, freeNamed, truckBook, jobBook, Specimen, stretches, stands, specimens, all-stand}
 use Rattle.claims.specs.Matched.{and-so, all-at}
 use Rattle.claims.specs.Answers.{Listed, bookLength, bookHeader, bookEnd, bookRecord, planLength, planHeader, planEnd, unknown, outside, breaks, late, apart, unmet, accepted}
 use Rattle.claims.specs.Papers.{SatisfiedIn, Met, Satisfies}
@@ -100,6 +101,13 @@ word-sheet-example = same-is _ _ (row 33 (omega arith))
 -- 02, L8: a rule that asks for 20 before the end of the plan isn't met by P2's second job, which ends with the plan; with 0 it is
 pub end-examples : (judged truckBook planP2 ≡ numbers 12 0 3) × (judged (set truckBook 56 0) planP2 ≡ numbers 0 2 0)
 end-examples = (same-is _ _ (row 38 (omega arith)), same-is _ _ (row 39 (omega arith)))
+
+-- 02, L7: two tokens of different jobs don't meet a rule that ties their jobs, two of one job do, and so do any two of edition 1
+pub job-examples :
+    (judged jobBook (2 ∷ 11 ∷ 1 ∷ 0 ∷ 2 ∷ 0 ∷ 5 ∷ 0 ∷ 0 ∷ 5 ∷ noLimit ∷ []) ≡ numbers 12 0 0)
+    × (judged jobBook (2 ∷ 11 ∷ 1 ∷ 0 ∷ 2 ∷ 0 ∷ 5 ∷ noLimit ∷ 0 ∷ 5 ∷ noLimit ∷ []) ≡ numbers 0 1 0)
+    × (judged jobBook (1 ∷ 9 ∷ 1 ∷ 0 ∷ 2 ∷ 0 ∷ 5 ∷ 0 ∷ 5 ∷ []) ≡ numbers 0 1 0)
+job-examples = (same-is _ _ (row 40 (omega arith)), same-is _ _ (row 41 (omega arith)), same-is _ _ (row 42 (omega arith)))
 
 -- the direct judge's rows 12 and 0, and the translator's 0 and 15
 pub sheet-examples :

@@ -21,7 +21,7 @@ use Rattle.lines.specs.Ends.{planEnd}
 use Rattle.allen.specs.Relation.{conditions, relationOf, thirteen}
 use Rattle.allen.specs.One.{one-relation, relation-below}
 use Rattle.allen.specs.Atoms.{relations, atomsOf}
-use Rattle.choice.specs.Met.{Choice, choiceSize, nobody, triggered, put, tokenTime, timeOf, atomHolds, constraintHolds, place, alternativeMet, met}
+use Rattle.choice.specs.Met.{Choice, choiceSize, nobody, triggered, put, tokenTime, timeOf, boundsHold, atomHolds, constraintHolds, place, alternativeMet, met}
 use Rattle.choice.specs.Exists.{chosen, choiceOf}
 use Rattle.choice.proofs.Exists.{choice-time}
 use Rattle.choice.proofs.Laws.{put-first, put-second, put-else, put-out, put-long}
@@ -57,18 +57,18 @@ trigger-choice last t h =
     each (suc k) = lit< tt
 
 -- a token with a length, put into the choice, which has places for four names
-put-proper : (c : Choice) (k start end : ℕ) → ProperChoice c → start < end → ProperChoice (put c k start end)
-put-proper c k start end h l =
+put-proper : (c : Choice) (k start end job : ℕ) → ProperChoice c → start < end → ProperChoice (put c k start end job)
+put-proper c k start end job h l =
     elim (decLe k 4) [
-      | yes m ↦ record { size = put-long c k start end ∙ h .size; forward = there m }
-      | no n ↦ rw (put-out c k start end (omega (arith, h .size))) h
+      | yes m ↦ record { size = put-long c k start end job ∙ h .size; forward = there m }
+      | no n ↦ rw (put-out c k start end job (omega (arith, h .size))) h
     ]
   where
-    there : k ≤ 4 → (x : ℕ) → tokenTime (put c k start end) 0 x < tokenTime (put c k start end) 1 x
+    there : k ≤ 4 → (x : ℕ) → tokenTime (put c k start end job) 0 x < tokenTime (put c k start end job) 1 x
     there m x =
         elim (ℕ-discrete x k) [
-          | yes e ↦ rw (e, put-first c k start end (omega (arith, h .size)), put-second c k start end (omega (arith, h .size))) l
-          | no n ↦ rw (put-else c k start end 0 x (omega arith) n, put-else c k start end 1 x (omega arith) n) (h .forward x)
+          | yes e ↦ rw (e, put-first c k start end job (omega (arith, h .size)), put-second c k start end job (omega (arith, h .size))) l
+          | no n ↦ rw (put-else c k start end job 0 x (omega arith) n, put-else c k start end job 1 x (omega arith) n) (h .forward x)
         ]
 
 -- ---- one constraint
@@ -90,7 +90,7 @@ equal p q = rw add-zero (sym (split (leb p q) (leb q p) refl refl))
 pub atoms-hold : (c : Choice) → ProperChoice c → (l r : ℕ)
     → map (all (atomHolds c)) (relations l r)
     ≡ map (λ (k : ℕ). eqb k (relationOf (tokenTime c 0 l) (tokenTime c 1 l) (tokenTime c 0 r) (tokenTime c 1 r))) thirteen
-unfolding all atomHolds timeOf
+unfolding all atomHolds boundsHold timeOf
 atoms-hold c h l r =
     simp (less, equal, and-true) (one-relation (tokenTime c 0 l) (tokenTime c 1 l) (tokenTime c 0 r) (tokenTime c 1 r) (h .forward l) (h .forward r))
 
@@ -182,11 +182,11 @@ module _ (lines : ℕ → List Token) where
   unfolding place
   place-any p xs [] k c = refl
   place-any p xs (n ∷ ns) k c =
-      any-any (λ x t. eqb (t .value) (n .value) && place lines (p x) ns (k + 1) (put c k (t .start .tick) (t .end .tick))) xs (lines (n .variable))
+      any-any (λ x t. eqb (t .value) (n .value) && place lines (p x) ns (k + 1) (put c k (t .start .tick) (t .end .tick) (t .job))) xs (lines (n .variable))
       ∙ any-same _ _
       (λ t.
-      any-and (eqb (t .value) (n .value)) (λ x. place lines (p x) ns (k + 1) (put c k (t .start .tick) (t .end .tick))) xs
-      ∙ rw (place-any p xs ns (k + 1) (put c k (t .start .tick) (t .end .tick))))
+      any-and (eqb (t .value) (n .value)) (λ x. place lines (p x) ns (k + 1) (put c k (t .start .tick) (t .end .tick) (t .job))) xs
+      ∙ rw (place-any p xs ns (k + 1) (put c k (t .start .tick) (t .end .tick) (t .job))))
       (lines (n .variable))
 
   module _ (m : ℕ) (proper : (v : ℕ) → v < m → All Proper (lines v)) where
@@ -197,7 +197,7 @@ module _ (lines : ℕ → List Token) where
     place-on p q h [] b k c a = h c a
     place-on p q h (n ∷ ns) b k c a =
         any-on Proper _ _
-        (λ t l. rw (place-on p q h ns (b .1) (k + 1) (put c k (t .start .tick) (t .end .tick)) (put-proper c k (t .start .tick) (t .end .tick) a l)))
+        (λ t l. rw (place-on p q h ns (b .1) (k + 1) (put c k (t .start .tick) (t .end .tick) (t .job)) (put-proper c k (t .start .tick) (t .end .tick) (t .job) a l)))
         (lines (n .variable))
         (proper (n .variable) (b .0))
 

@@ -15,7 +15,7 @@ use Rattle.book.specs.Fault as book
 use Rattle.book.specs.Sound.{Sound}
 use Rattle.book.specs.Encode.{atoms, constraints}
 use Rattle.book.specs.Rules.{rulesOf, variablesOf}
-use Rattle.lines.specs.Lines.{lineOf}
+use Rattle.lines.specs.Lines.{tokenWidth, lineOf}
 use Rattle.plan.specs.Fault as plan
 use Rattle.lines.specs.Good.{HeadGood}
 use Rattle.choice.specs.Met.{atomHolds, constraintHolds}
@@ -49,9 +49,9 @@ pub record FaultTable (e : ℕ) (b p : List ℕ) (answer : Numbers) : Type 0 whe
   pub fault-5 : (answer ≡ numbers 5 0 0) ↔ (Sound e b × ((length p < 3 + 2 * count b 0) ⊎ (16384 < length p)))
   -- 6 "first wrong word before the tokens"
   pub fault-6 : (word : ℕ) → (answer ≡ numbers 6 word 0) ↔ (Sound e b × PlanSized b p × First (3 + 2 * count b 0) (HeadWrong b p) word)
-  -- 7 "tokens don't end at the length"
+  -- 7 "tokens don't end at the length": they have 3 words each in edition 2, else 2
   pub fault-7 : (answer ≡ numbers 7 0 0)
-      ↔ (Sound e b × PlanSized b p × HeadGood b p × (3 + 2 * count b 0 + 2 * plan.sumBefore p (count b 0) ≡ length p → ⊥))
+      ↔ (Sound e b × PlanSized b p × HeadGood b p × (3 + 2 * count b 0 + tokenWidth p * plan.sumBefore p (count b 0) ≡ length p → ⊥))
   -- 8 "value unknown", 9 "duration outside least..greatest", 10 "not a successor of the token before", 11 "token ends after 1,000,000,000":
   -- the first token in the order that is wrong, by the first of the four tests that it doesn't pass
   pub fault-8-to-11 : (n timeline token : ℕ) → 8 ≤ n → n ≤ 11 → (answer ≡ numbers n timeline token)
@@ -118,7 +118,7 @@ fault-table e b p last own =
           );
       fault-7 =
           let s = stage 6 (numbers 7 0 0) (omega arith) (omega arith) (omega arith) (omega arith) in
-          let m = missed 7 (omega arith) (3 + 2 * count b 0 + 2 * plan.sumBefore p (count b 0)) (length p) in (
+          let m = missed 7 (omega arith) (3 + 2 * count b 0 + tokenWidth p * plan.sumBefore p (count b 0)) (length p) in (
             λ h.
                 let q = s .0 h in
                 let w = with-book e b .0 (q .0) in

@@ -17,7 +17,7 @@ use Rattle.layout.proofs.Tests.{or-right}
 use Rattle.book.proofs.Good.{good, good-back, no-number}
 use Rattle.book.specs.Sound.{Sound}
 use Rattle.book.proofs.Sound.{sound, sound-back}
-use Rattle.lines.specs.Lines.{lineOf}
+use Rattle.lines.specs.Lines.{tokenWidth, lineOf}
 use Rattle.lines.specs.Ends.{lineEnd, planEnd, endsApart, firstApart, endsFault}
 use Rattle.plan.specs.Fault as plan
 use Rattle.lines.specs.Good.{HeadGood}
@@ -185,9 +185,9 @@ module _ (b p : List ℕ) where
       fails true n = absurd (n refl)
       fails false n = refl
 
-  pub plan-ends : (plan.endFault b p .number ≡ 0) ↔ (3 + 2 * count b 0 + 2 * plan.sumBefore p (count b 0) ≡ length p)
+  pub plan-ends : (plan.endFault b p .number ≡ 0) ↔ (3 + 2 * count b 0 + tokenWidth p * plan.sumBefore p (count b 0) ≡ length p)
   unfolding plan.endFault
-  plan-ends = reached 7 (omega arith) (3 + 2 * count b 0 + 2 * plan.sumBefore p (count b 0)) (length p)
+  plan-ends = reached 7 (omega arith) (3 + 2 * count b 0 + tokenWidth p * plan.sumBefore p (count b 0)) (length p)
 
   -- 18 found nothing, and this
   pub ends-none : (endsFault b p .number ≡ 0) ↔ None (count b 0) (EndsApart p)

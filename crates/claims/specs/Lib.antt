@@ -10,6 +10,7 @@ pub mod OneAnswer
 pub mod Accepted
 pub mod Wrongs
 pub mod Faults
+pub mod Editions
 pub mod FaultsOfRules
 pub mod FaultsOfTranslation
 pub mod Taken

@@ -20,12 +20,12 @@ use Rattle.book.specs.Fault as book
 use Rattle.book.specs.Rules.{nameAt, atomAt, constraintAt, alternativeAt, ruleAt, rulesOf}
 use Rattle.book.specs.Encode.{bookOf}
 use Rattle.book.proofs.Specimen.{same}
-use Rattle.lines.specs.Lines.{tokensFrom, lineOf}
+use Rattle.lines.specs.Lines.{tokenWidth, jobAt, tokensFrom, lineOf}
 use Rattle.lines.specs.Ends.{endFrom, endsApart, endsFault}
 use Rattle.plan.specs.Fault as plan
 use Rattle.allen.specs.Relation.{relationOf}
 use Rattle.allen.specs.Atoms.{atomsOf}
-use Rattle.choice.specs.Met.{put, tokenTime, endTime, timeOf, atomHolds, constraintHolds, place, alternativeMet, met}
+use Rattle.choice.specs.Met.{put, tokenTime, tokenJob, endTime, timeOf, boundsHold, atomHolds, constraintHolds, place, alternativeMet, met}
 use Rattle.verdict.specs.Judged.{counted, triggerLine, isTrigger, examined, unmet, firstUnmet, ruleUnmet, rulesFault, judged}
 use Rattle.listing.specs.Expand.{keep, relationsIn, choices, atomsFor, expand, translate}
 use Rattle.translator.specs.Translation.{rulesFor, translated, tooMany, ruleFault, sizeFault, roomFault, translation}
@@ -120,13 +120,22 @@ records =
     ∷ (book.bookFault 2 (fifthBook 2 0 []), noFault)
     ∷ (book.bookFault 2 (fifthBook 2 8 (0 ∷ 1 ∷ 1 ∷ [])), noFault)
     ∷ (book.bookFault 2 (fifthBook 2 9 (0 ∷ 1 ∷ 1 ∷ [])), numbersAt 4 3 0 3)
-    -- "A term's kind is 0 start of, 1 end of, 2 time point", and "3, end of the plan", on both sides
+    -- "A term's kind is 0 start of, 1 end of, 2 time point", "3, end of the plan", "4, job of", on both sides
     ∷ (book.bookFault 1 (atomBook 0 1 0 0 0 N), noFault)
     ∷ (book.bookFault 1 (atomBook 1 1 1 0 0 N), noFault)
     ∷ (book.bookFault 1 (atomBook 2 0 2 0 0 N), noFault)
     ∷ (book.bookFault 1 (atomBook 3 0 3 0 0 N), noFault)
-    ∷ (book.bookFault 1 (atomBook 4 0 2 0 0 N), numbersAt 4 5 0 0)
-    ∷ (book.bookFault 1 (atomBook 2 0 4 0 0 N), numbersAt 4 5 0 2)
+    ∷ (book.bookFault 1 (atomBook 4 0 4 1 0 0), noFault)
+    ∷ (book.bookFault 1 (atomBook 5 0 4 1 0 0), numbersAt 4 5 0 0)
+    ∷ (book.bookFault 1 (atomBook 2 0 5 0 0 N), numbersAt 4 5 0 2)
+    -- kind 4 "stands on both sides of an atom or on neither", "argument as in kind 0", "its bounds must be 0 and 0"
+    ∷ (book.bookFault 1 (atomBook 4 0 0 1 0 0), numbersAt 4 5 0 2)
+    ∷ (book.bookFault 1 (atomBook 0 0 4 1 0 0), numbersAt 4 5 0 2)
+    ∷ (book.bookFault 1 (atomBook 4 2 0 1 0 0), numbersAt 4 5 0 1)
+    ∷ (book.bookFault 1 (atomBook 4 0 4 2 0 0), numbersAt 4 5 0 3)
+    ∷ (book.bookFault 1 (atomBook 4 0 4 1 1 1), numbersAt 4 5 0 4)
+    ∷ (book.bookFault 1 (atomBook 4 0 4 1 0 1), numbersAt 4 5 0 5)
+    ∷ (book.bookFault 1 (atomBook 4 0 4 1 0 N), numbersAt 4 5 0 5)
     -- "end of the plan, argument 0"; "another argument gets 4"
     ∷ (book.bookFault 1 (atomBook 3 1 2 0 0 N), numbersAt 4 5 0 1)
     ∷ (book.bookFault 1 (atomBook 2 0 3 1 0 N), numbersAt 4 5 0 3)
@@ -164,10 +173,11 @@ plans =
     ∷ (plan.lengthFault twoBook (replicate 5 0), noFault)
     ∷ (plan.lengthFault twoBook (replicate 16384 0), noFault)
     ∷ (plan.lengthFault twoBook (replicate 16385 0), numbers 5 0 0)
-    -- "edition 1, total words, number of timelines", first token, "token count (0..512)"
+    -- edition 1 or 2, "total words, number of timelines", first token, "token count (0..512)"
     ∷ (judged twoBook (1 ∷ 5 ∷ 1 ∷ 0 ∷ 0 ∷ []), noFault)
     ∷ (judged twoBook (0 ∷ 5 ∷ 1 ∷ 0 ∷ 0 ∷ []), numbers 6 0 0)
-    ∷ (judged twoBook (2 ∷ 5 ∷ 1 ∷ 0 ∷ 0 ∷ []), numbers 6 0 0)
+    ∷ (judged twoBook (2 ∷ 5 ∷ 1 ∷ 0 ∷ 0 ∷ []), noFault)
+    ∷ (judged twoBook (3 ∷ 5 ∷ 1 ∷ 0 ∷ 0 ∷ []), numbers 6 0 0)
     ∷ (judged twoBook (1 ∷ 4 ∷ 1 ∷ 0 ∷ 0 ∷ []), numbers 6 1 0)
     ∷ (judged twoBook (1 ∷ 6 ∷ 1 ∷ 0 ∷ 0 ∷ []), numbers 6 1 0)
     ∷ (judged twoBook (1 ∷ 5 ∷ 0 ∷ 0 ∷ 0 ∷ []), numbers 6 2 0)
@@ -175,10 +185,13 @@ plans =
     ∷ (judged twoBook (1 ∷ 5 ∷ 1 ∷ 1 ∷ 0 ∷ []), numbers 6 3 0)
     ∷ (plan.headFault twoBook (1 ∷ 5 ∷ 1 ∷ 0 ∷ 512 ∷ []), noFault)
     ∷ (plan.headFault twoBook (1 ∷ 5 ∷ 1 ∷ 0 ∷ 513 ∷ []), numbers 6 4 0)
-    -- "tokens of 2 words"
+    -- "tokens of 2 words", of 3 in edition 2
     ∷ (judged twoBook (1 ∷ 6 ∷ 1 ∷ 0 ∷ 1 ∷ 1 ∷ []), numbers 7 0 0)
     ∷ (judged twoBook (1 ∷ 7 ∷ 1 ∷ 0 ∷ 1 ∷ 1 ∷ 1 ∷ []), noFault)
     ∷ (judged twoBook (1 ∷ 8 ∷ 1 ∷ 0 ∷ 1 ∷ 1 ∷ 1 ∷ 1 ∷ []), numbers 7 0 0)
+    ∷ (judged twoBook (2 ∷ 7 ∷ 1 ∷ 0 ∷ 1 ∷ 1 ∷ 1 ∷ []), numbers 7 0 0)
+    ∷ (judged twoBook (2 ∷ 8 ∷ 1 ∷ 0 ∷ 1 ∷ 1 ∷ 1 ∷ N ∷ []), noFault)
+    ∷ (judged twoBook (2 ∷ 9 ∷ 1 ∷ 0 ∷ 1 ∷ 1 ∷ 1 ∷ 1 ∷ 1 ∷ []), numbers 7 0 0)
     -- "Values count from 0 within a variable"
     ∷ (judged twoBook (1 ∷ 7 ∷ 1 ∷ 0 ∷ 1 ∷ 2 ∷ 1 ∷ []), numbers 8 0 0)
     -- "duration outside least..greatest"
@@ -221,5 +234,5 @@ translations =
 
 -- THE CLAIM: every row is as stated
 pub limits-stand : all (λ (row : Numbers × Numbers). same (row .0) (row .1)) (headers ++ records ++ plans ++ translations) ≡ true
-unfolding all any flatMap orElse least first run rows inSet inBounds fifthWidth fifthMost begins headerWrong starts owner setWrong valueTests fifthTestsOf fifthTests wrongWord recordWrong leaves tableWrong toldWord book.lengthFault book.headerFault book.endFault book.recordFault book.bookFault nameAt atomAt constraintAt alternativeAt ruleAt rulesOf bookOf tokensFrom lineOf plan.lengthFault plan.sumBefore plan.headWrong plan.headFault plan.endFault plan.startOf plan.durationOutside plan.notSuccessor plan.tokenFault plan.tokenWrong plan.firstToken plan.lineWrong plan.tokensFault plan.planFault endFrom endsApart endsFault relationOf atomsOf put tokenTime endTime timeOf atomHolds constraintHolds place alternativeMet met counted triggerLine isTrigger examined unmet firstUnmet ruleUnmet rulesFault judged keep relationsIn choices atomsFor expand translate rulesFor translated tooMany ruleFault sizeFault roomFault translation lineFault openFault
+unfolding all any flatMap orElse least first run rows inSet inBounds fifthWidth fifthMost begins headerWrong starts owner setWrong valueTests fifthTestsOf fifthTests wrongWord recordWrong leaves tableWrong toldWord book.lengthFault book.headerFault book.endFault book.recordFault book.bookFault nameAt atomAt constraintAt alternativeAt ruleAt rulesOf bookOf tokenWidth jobAt tokensFrom lineOf plan.lengthFault plan.sumBefore plan.headWrong plan.headFault plan.endFault plan.startOf plan.durationOutside plan.notSuccessor plan.tokenFault plan.tokenWrong plan.firstToken plan.lineWrong plan.tokensFault plan.planFault endFrom endsApart endsFault relationOf atomsOf put tokenTime tokenJob endTime timeOf boundsHold atomHolds constraintHolds place alternativeMet met counted triggerLine isTrigger examined unmet firstUnmet ruleUnmet rulesFault judged keep relationsIn choices atomsFor expand translate rulesFor translated tooMany ruleFault sizeFault roomFault translation lineFault openFault
 limits-stand = refl

@@ -1,17 +1,18 @@
 -- The search finds a trigger token met just where the papers' definitions say that it is: some statement of the rule, with some token
 -- mapping, is satisfied. Whatever alternatives ask; for a book's atoms it asks for what is so of the rules of a sound book: at most four
--- names, and terms of the kinds 0 to 3. Assumes nothing.
+-- names, and terms of the kinds 0 to 4, those of jobs on both sides or on neither. Assumes nothing.
 use mathlib.Core.Path.{_≡_, refl, sym, _∙_, subst}
 use mathlib.Core.Bool.{Bool, true, false, _&&_, _||_, not, false≢true}
 use mathlib.Core.Logic.{_↔_, inl, inr, ⊎-elim}
 use mathlib.Core.List.{List, [], _∷_}
 use Prim.Native.Nat.{ℕ, zero, suc, _≤_, _<_}
+use native.Mathlib.Decide.{ℕ-discrete}
 use native.Mathlib.Omega.{arith}
 use lib.IntN.{pos, subℕ}
 use lib.Signed.{leZ}
 use lib.Dec.{eqb}
 use lib.ListN.{length, getD}
-use borrow.Author.Tests.{eqb-true, eq-eqb}
+use borrow.Author.Tests.{eqb-true, eq-eqb, ne-eqb}
 use Rattle.words.specs.Lists.{All}
 use Rattle.clock.specs.Clock.{noLimit}
 use Rattle.clock.proofs.Laws.{whole}
@@ -19,10 +20,10 @@ use Rattle.book.specs.Rules.{Atom, Alternative, Rule}
 use Rattle.book.specs.Sound.{TermSound}
 use Rattle.lines.specs.declared.Token.{Token}
 use Rattle.lines.specs.Ends.{planEnd}
-use Rattle.choice.specs.Met.{Choice, nobody, timeOf, atomHolds, met}
+use Rattle.choice.specs.Met.{Choice, nobody, timeOf, boundsHold, atomHolds, met}
 use Rattle.choice.specs.Exists as exists
-use Rattle.choice.proofs.Exists.{met-iff as exists-met, choice-time, choice-end}
-use Rattle.claims.specs.Papers.{tokenOf, Evaluates, start, end, timestamp, endOfPlan, Satisfied, SatisfiedIn, On, noName, noStatement, Maps, Met}
+use Rattle.choice.proofs.Exists.{met-iff as exists-met, choice-time, choice-job, choice-end}
+use Rattle.claims.specs.Papers.{tokenOf, Evaluates, start, end, timestamp, endOfPlan, Bounded, Satisfied, SatisfiedIn, On, noName, noStatement, Maps, Met}
 use Rattle.claims.specs.Laws.{all-to}
 use Rattle.claims.specs.Decoded.{AlternativeFine, RuleFine}
 use Rattle.claims.specs.TranslatedRules.{AtomFine}
@@ -60,14 +61,14 @@ module _ (last : ℕ) (trigger : Token) (tokens : List Token) (few : length toke
   abbrev choice : Choice
   choice = exists.choiceOf last trigger tokens
 
-  -- the time of a term that may stand in a book is its evaluation
-  evaluates : {n : ℕ} {some : Bool} (kind k : ℕ) → TermSound n some kind k → Evaluates last mapping kind k (timeOf choice kind k)
+  -- the time of a term that may stand in a book, but for jobs, is its evaluation
+  evaluates : {n : ℕ} {some : Bool} (kind k : ℕ) → (kind ≡ 4 → ⊥) → TermSound n some kind k → Evaluates last mapping kind k (timeOf choice kind k)
   unfolding timeOf
-  evaluates zero k l = rw (choice-time last trigger tokens k few .0) (start k)
-  evaluates (suc zero) k l = rw (choice-time last trigger tokens k few .1) (end k)
-  evaluates (suc (suc zero)) k l = timestamp k
-  evaluates (suc (suc (suc zero))) k l = rw (choice-end last trigger tokens few, l .last refl) endOfPlan
-  evaluates (suc (suc (suc (suc n)))) k l = absurd (omega (arith, l .kinds))
+  evaluates zero k ne l = rw (choice-time last trigger tokens k few .0) (start k)
+  evaluates (suc zero) k ne l = rw (choice-time last trigger tokens k few .1) (end k)
+  evaluates (suc (suc zero)) k ne l = timestamp k
+  evaluates (suc (suc (suc zero))) k ne l = rw (choice-end last trigger tokens few, l .last refl) endOfPlan
+  evaluates (suc (suc (suc (suc n)))) k ne l = absurd (omega (arith, l .kinds))
 
   -- and there is no other
   evaluation : (kind k x : ℕ) → Evaluates last mapping kind k x → x ≡ timeOf choice kind k
@@ -77,10 +78,10 @@ module _ (last : ℕ) (trigger : Token) (tokens : List Token) (few : length toke
   evaluation _ _ _ (timestamp k) = refl
   evaluation _ _ _ endOfPlan = sym (choice-end last trigger tokens few)
 
-  -- an atom holds just where it is satisfied
-  atom-iff : {n : ℕ} {some : Bool} (q : Atom) → AtomFine n some q → (atomHolds choice q ≡ true) ↔ Satisfied last mapping q
-  unfolding atomHolds
-  atom-iff q fine =
+  -- an atom's times are within its bounds just where it says so
+  bounds-iff : {n : ℕ} {some : Bool} (q : Atom) → AtomFine n some q → (q .leftKind ≡ 4 → ⊥) → (boundsHold choice q ≡ true) ↔ Bounded last mapping q
+  unfolding boundsHold
+  bounds-iff q fine ne =
       let c = choice in
       let l : ℕ = timeOf c (q .leftKind) (q .left) in
       let r : ℕ = timeOf c (q .rightKind) (q .right) in
@@ -92,8 +93,8 @@ module _ (last : ℕ) (trigger : Token) (tokens : List Token) (few : length toke
             record {
               left = l;
               right = r;
-              isLeft = evaluates (q .leftKind) (q .left) (fine .left);
-              isRight = evaluates (q .rightKind) (q .right) (fine .right);
+              isLeft = evaluates (q .leftKind) (q .left) ne (fine .left);
+              isRight = evaluates (q .rightKind) (q .right) (λ e. ne (fine .jobs .back e)) (fine .right);
               lower = s .0;
               upper = ⊎-elim (λ e. inl (eqb-true _ _ e)) (λ e. inr e) (o .0 (s .1));
             },
@@ -106,6 +107,22 @@ module _ (last : ℕ) (trigger : Token) (tokens : List Token) (few : length toke
               o .1 (⊎-elim (λ e. inl (eq-eqb _ _ e)) (λ e. inr (rw (← el, ← er) e)) (s .upper)),
             ),
       )
+
+  -- an atom holds just where it is satisfied
+  atom-iff : {n : ℕ} {some : Bool} (q : Atom) → AtomFine n some q → (atomHolds choice q ≡ true) ↔ Satisfied last mapping q
+  unfolding atomHolds
+  atom-iff q fine =
+      let l = choice-job last trigger tokens (q .left) few in
+      let r = choice-job last trigger tokens (q .right) few in
+      elim (ℕ-discrete (q .leftKind) 4) [
+        | yes e ↦ rw (eq-eqb (q .leftKind) 4 e, l, r) (
+          λ h. record { bounds = λ ne. absurd (ne e); jobs = λ _. eqb-true _ _ h },
+          λ s. eq-eqb _ _ (s .jobs e),
+        )
+        | no ne ↦
+            let b = bounds-iff q fine ne in
+            rw (ne-eqb (q .leftKind) 4 ne) (λ h. record { bounds = λ _. b .0 h; jobs = λ e. absurd (ne e) }, λ s. b .1 (s .bounds ne))
+      ]
 
 -- ---- statements and rules
 

@@ -65,38 +65,47 @@ step-one p at = settled (stepOf p at)
 
 -- ---- the C side, where numbers come back one by one: `tteokbiran_step`; the others are equations of the functions above
 
--- what a step for C leaves in its four numbers
+-- what a step for C leaves in its five numbers
 pub record Left : Type 0 where
   pub token : ℕ
   pub start : ℕ
   pub value : ℕ
   pub end : ℕ
+  pub job : ℕ
+
+-- what a step that comes to so much leaves, of what it was lent
+abbrev pub Leaves : Step → Left → Left → Type 0
+Leaves step q left =
+    Stepped step (q .token) (q .start) (q .value) (q .end) (q .job) (left .token) (left .start) (left .value) (left .end) (left .job)
 
 -- the ensures of `tteokbiran_step`, of the numbers lent, what it answers and the numbers left
 abbrev pub StepPermits : List ℕ → ℕ → Left → Bool → Left → Type 0
 StepPermits p line q r left =
     (r ≡ names p (position line (q .token) (q .start)))
-    × Stepped (stepOf p (position line (q .token) (q .start))) (q .token) (q .start) (q .value) (q .end) (left .token) (left .start) (left .value) (left .end)
+    × Leaves (stepOf p (position line (q .token) (q .start))) q left
 
--- four equations each settle the four numbers
-four : (l m x : Left) → (l .token ≡ x .token) × (l .start ≡ x .start) × (l .value ≡ x .value) × (l .end ≡ x .end)
-    → (m .token ≡ x .token) × (m .start ≡ x .start) × (m .value ≡ x .value) × (m .end ≡ x .end) → l ≡ m
-four l m x h k =
+-- five equations each settle the five numbers
+abbrev Same : Left → Left → Type 0
+Same l x = (l .token ≡ x .token) × (l .start ≡ x .start) × (l .value ≡ x .value) × (l .end ≡ x .end) × (l .job ≡ x .job)
+
+five : (l m x : Left) → Same l x → Same m x → l ≡ m
+five l m x h k =
     let t = settled _ (l .token) (m .token) (h .0) (k .0) in
     let s = settled _ (l .start) (m .start) (h .1) (k .1) in
     let v = settled _ (l .value) (m .value) (h .2) (k .2) in
     let e = settled _ (l .end) (m .end) (h .3) (k .3) in
-    ap (λ (n : ℕ). record { token = n; start = l .start; value = l .value; end = l .end }) t
-    ∙ ap (λ (n : ℕ). record { token = m .token; start = n; value = l .value; end = l .end }) s
-    ∙ ap (λ (n : ℕ). record { token = m .token; start = m .start; value = n; end = l .end }) v
-    ∙ ap (λ (n : ℕ). record { token = m .token; start = m .start; value = m .value; end = n }) e
+    let j = settled _ (l .job) (m .job) (h .4) (k .4) in
+    ap (λ (n : ℕ). record { token = n; start = l .start; value = l .value; end = l .end; job = l .job }) t
+    ∙ ap (λ (n : ℕ). record { token = m .token; start = n; value = l .value; end = l .end; job = l .job }) s
+    ∙ ap (λ (n : ℕ). record { token = m .token; start = m .start; value = n; end = l .end; job = l .job }) v
+    ∙ ap (λ (n : ℕ). record { token = m .token; start = m .start; value = m .value; end = n; job = l .job }) e
+    ∙ ap (λ (n : ℕ). record { token = m .token; start = m .start; value = m .value; end = m .end; job = n }) j
 
 pub step-c-one : (p : List ℕ) (line : ℕ) (q : Left) (r s : Bool) (left left′ : Left)
     → StepPermits p line q r left → StepPermits p line q s left′ → (r ≡ s) × (left ≡ left′)
 step-c-one p line q r s left left′ h k = (settled _ r s (h .0) (k .0), by (stepOf p (position line (q .token) (q .start))) (h .1) (k .1))
   where
-    by : (step : Step) → Stepped step (q .token) (q .start) (q .value) (q .end) (left .token) (left .start) (left .value) (left .end)
-        → Stepped step (q .token) (q .start) (q .value) (q .end) (left′ .token) (left′ .start) (left′ .value) (left′ .end) → left ≡ left′
+    by : (step : Step) → Leaves step q left → Leaves step q left′ → left ≡ left′
     by (Handed t next) a b =
-        four left left′ (record { token = next .token; start = next .start .tick; value = t .value; end = t .end .tick }) a b
-    by (NoMore at) a b = four left left′ q a b
+        five left left′ (record { token = next .token; start = next .start .tick; value = t .value; end = t .end .tick; job = t .job }) a b
+    by (NoMore at) a b = five left left′ q a b

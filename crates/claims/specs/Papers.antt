@@ -77,13 +77,19 @@ pub data Evaluates (last : ℕ) (mapping : List Token) : ℕ → ℕ → ℕ →
   endOfPlan : Evaluates last mapping 3 0 last
 
 -- 000, Definition 2.9, "l ≤ ⟦T'⟧ - ⟦T⟧ ≤ u", on whole numbers; u may be +∞
-pub record Satisfied (last : ℕ) (mapping : List Token) (atom : Atom) : Type 0 where
+pub record Bounded (last : ℕ) (mapping : List Token) (atom : Atom) : Type 0 where
   pub left : ℕ
   pub right : ℕ
   pub isLeft : Evaluates last mapping (atom .leftKind) (atom .left) left
   pub isRight : Evaluates last mapping (atom .rightKind) (atom .right) right
   pub lower : leZ (pos (atom .lower)) (subℕ right left) ≡ true
   pub upper : (atom .upper ≡ noLimit) ⊎ (leZ (subℕ right left) (pos (atom .upper)) ≡ true)
+
+-- an atom of the papers is within its bounds. An atom of jobs (left kind 4) is the house's (02, L7), beside the papers': it "holds when the
+-- jobs are equal"
+pub record Satisfied (last : ℕ) (mapping : List Token) (atom : Atom) : Type 0 where
+  pub bounds : (atom .leftKind ≡ 4 → ⊥) → Bounded last mapping atom
+  pub jobs : atom .leftKind ≡ 4 → tokenOf mapping (atom .left) .job ≡ tokenOf mapping (atom .right) .job
 
 -- in a plan: its end is "the common end" of its timelines
 abbrev pub SatisfiedIn : (ℕ → List Token) → List Token → Atom → Type 0

@@ -15,11 +15,11 @@ use Rattle.clock.specs.Clock.{lastTick, noLimit}
 use Rattle.layout.specs.Layout.{width, count, recordAt, field, ends, owner, valuesOf}
 use Rattle.layout.proofs.Bounds.{tables}
 use Rattle.layout.proofs.Tests.{or-right, le-so, eq-so}
-use Rattle.records.specs.Wrong.{Range, valueRange, alternativeRange, nameRange, askRange, numberWrong, lowerWrong, upperWrong, setWrong, triggerVariableWrong, triggerValueWrong, tokenWrong, argumentWrong, variableTests, valueTests, ruleTests, alternativeTests, nameTests, fifthTestsOf, fifthTests, recordTests, wrongWord, recordWrong}
+use Rattle.records.specs.Wrong.{Range, valueRange, alternativeRange, nameRange, askRange, numberWrong, lowerWrong, upperWrong, setWrong, triggerVariableWrong, triggerValueWrong, tokenWrong, rightKindWrong, argumentWrong, jobBoundWrong, variableTests, valueTests, ruleTests, alternativeTests, nameTests, fifthTestsOf, fifthTests, recordTests, wrongWord, recordWrong}
 use Rattle.records.proofs.Words.{first-word, record-right}
 use Rattle.book.specs.Fault.{leaves, lowest, tableWrong, toldWord}
 use Rattle.book.specs.Sound.{namesAt}
-use Rattle.claims.specs.Wrongs.{First, None, NumberWrong, LowerWrong, UpperWrong, NoToken, ArgumentWrong, triggerOf, WordWrong, valuesStart, valuesNumber, leastDuration, greatestDuration, successors, triggerVariable, triggerValue, alternativesStart, alternativesNumber, namesStart, namesNumber, asksStart, asksNumber, nameVariable, nameValue, leftKind, leftArgument, rightKind, rightArgument, lower, upper, leftToken, rightToken, relations, RecordWrong, Leaves, TableGood, TableBad}
+use Rattle.claims.specs.Wrongs.{First, None, NumberWrong, LowerWrong, UpperWrong, NoToken, ArgumentWrong, RightKindWrong, JobBoundWrong, triggerOf, WordWrong, valuesStart, valuesNumber, leastDuration, greatestDuration, successors, triggerVariable, triggerValue, alternativesStart, alternativesNumber, namesStart, namesNumber, asksStart, asksNumber, nameVariable, nameValue, leftKind, leftArgument, rightKind, rightArgument, lower, upper, leftToken, rightToken, relations, RecordWrong, Leaves, TableGood, TableBad}
 use Rattle.claims.specs.WrongTests.{or-so, not-eq, unless, otherwise, none-is, first-is, none-least, leaves-iff}
 use Rattle.claims.specs.Matched.{and-so}
 
@@ -65,7 +65,20 @@ token-so n v x = or-iff (lt-so n x) (and-iff (eq-so x 0) (no-trigger v))
 argument-so : (n v kind x : ℕ) → (argumentWrong n (not (eqb v noLimit)) kind x ≡ true) ↔ ArgumentWrong n v kind x
 argument-so n v kind x =
     or-iff (and-iff (eq-so kind 2) (lt-so lastTick x))
-    (or-iff (and-iff (eq-so kind 3) (not-eq x 0)) (and-iff (lt-so kind 2) (token-so n v x)))
+    (or-iff (and-iff (eq-so kind 3) (not-eq x 0)) (or-iff (and-iff (lt-so kind 2) (token-so n v x)) (and-iff (eq-so kind 4) (token-so n v x))))
+
+right-so : (left right : ℕ) → (rightKindWrong left right ≡ true) ↔ RightKindWrong left right
+right-so left right =
+    or-iff (lt-so 4 right) (or-iff (and-iff (eq-so left 4) (not-eq right 4)) (and-iff (not-eq left 4) (eq-so right 4)))
+
+job-so : (left x : ℕ) → (jobBoundWrong left x ≡ true) ↔ JobBoundWrong left x
+job-so left x = and-iff (eq-so left 4) (not-eq x 0)
+
+low-so : (left x : ℕ) → ((lowerWrong 0 x || jobBoundWrong left x) ≡ true) ↔ (LowerWrong 0 x ⊎ JobBoundWrong left x)
+low-so left x = or-iff (lower-so 0 x) (job-so left x)
+
+high-so : (left x y : ℕ) → ((upperWrong x y || jobBoundWrong left y) ≡ true) ↔ (UpperWrong x y ⊎ JobBoundWrong left y)
+high-so left x y = or-iff (upper-so x y) (job-so left y)
 
 variable-so : (b : List ℕ) (v : ℕ) → (triggerVariableWrong b v ≡ true) ↔ ((v ≡ noLimit → ⊥) × (count b 0 ≤ v))
 variable-so b v = and-iff (not-eq v noLimit) (le-so (count b 0) v)
@@ -116,13 +129,13 @@ module _ (e : ℕ) (b : List ℕ) (i : ℕ) where
 
   atom-to : (e ≡ 2 → ⊥) → (j : ℕ) → getD (fifthTests e b i) j false ≡ true → WordWrong e b i 5 j
   unfolding fifthTests fifthTestsOf
-  atom-to n zero h = leftKind n (lt-so 3 (word b at) .0 (rw (ne-eqb e 2 n) at h))
+  atom-to n zero h = leftKind n (lt-so 4 (word b at) .0 (rw (ne-eqb e 2 n) at h))
   atom-to n (suc zero) h = leftArgument n (argument-so (namesAt e b i) (triggerOf e b i) (word b at) (word b (at + 1)) .0 (rw (ne-eqb e 2 n) at h))
-  atom-to n (suc (suc zero)) h = rightKind n (lt-so 3 (word b (at + 2)) .0 (rw (ne-eqb e 2 n) at h))
+  atom-to n (suc (suc zero)) h = rightKind n (right-so (word b at) (word b (at + 2)) .0 (rw (ne-eqb e 2 n) at h))
   atom-to n (suc (suc (suc zero))) h =
       rightArgument n (argument-so (namesAt e b i) (triggerOf e b i) (word b (at + 2)) (word b (at + 3)) .0 (rw (ne-eqb e 2 n) at h))
-  atom-to n (suc (suc (suc (suc zero)))) h = lower n (lower-so 0 (word b (at + 4)) .0 (rw (ne-eqb e 2 n) at h))
-  atom-to n (suc (suc (suc (suc (suc zero))))) h = upper n (upper-so (word b (at + 4)) (word b (at + 5)) .0 (rw (ne-eqb e 2 n) at h))
+  atom-to n (suc (suc (suc (suc zero)))) h = lower n (low-so (word b at) (word b (at + 4)) .0 (rw (ne-eqb e 2 n) at h))
+  atom-to n (suc (suc (suc (suc (suc zero))))) h = upper n (high-so (word b at) (word b (at + 4)) (word b (at + 5)) .0 (rw (ne-eqb e 2 n) at h))
   atom-to n (suc (suc (suc (suc (suc (suc j)))))) h = absurd (false≢true (rw (ne-eqb e 2 n) at h))
 
   constraint-to : e ≡ 2 → (j : ℕ) → getD (fifthTests e b i) j false ≡ true → WordWrong e b i 5 j
@@ -152,12 +165,12 @@ module _ (e : ℕ) (b : List ℕ) (i : ℕ) where
   word-from (asksNumber h) = number-so e b (askRange e) i .1 h
   word-from (nameVariable h) = le-so (count b 0) (field e b 4 i 0) .1 h
   word-from (nameValue h) = le-so (valuesOf e b (field e b 4 i 0)) (field e b 4 i 1) .1 h
-  word-from (leftKind n h) = rw (ne-eqb e 2 n) (lt-so 3 (word b at) .1 h)
+  word-from (leftKind n h) = rw (ne-eqb e 2 n) (lt-so 4 (word b at) .1 h)
   word-from (leftArgument n h) = rw (ne-eqb e 2 n) (argument-so (namesAt e b i) (triggerOf e b i) (word b at) (word b (at + 1)) .1 h)
-  word-from (rightKind n h) = rw (ne-eqb e 2 n) (lt-so 3 (word b (at + 2)) .1 h)
+  word-from (rightKind n h) = rw (ne-eqb e 2 n) (right-so (word b at) (word b (at + 2)) .1 h)
   word-from (rightArgument n h) = rw (ne-eqb e 2 n) (argument-so (namesAt e b i) (triggerOf e b i) (word b (at + 2)) (word b (at + 3)) .1 h)
-  word-from (lower n h) = rw (ne-eqb e 2 n) (lower-so 0 (word b (at + 4)) .1 h)
-  word-from (upper n h) = rw (ne-eqb e 2 n) (upper-so (word b (at + 4)) (word b (at + 5)) .1 h)
+  word-from (lower n h) = rw (ne-eqb e 2 n) (low-so (word b at) (word b (at + 4)) .1 h)
+  word-from (upper n h) = rw (ne-eqb e 2 n) (high-so (word b at) (word b (at + 4)) (word b (at + 5)) .1 h)
   word-from (leftToken q h) = rw (eq-eqb e 2 q) (token-so (namesAt e b i) (triggerOf e b i) (word b at) .1 h)
   word-from (rightToken q h) = rw (eq-eqb e 2 q) (token-so (namesAt e b i) (triggerOf e b i) (word b (at + 1)) .1 h)
   word-from (relations q h) = rw (eq-eqb e 2 q) (relations-so (word b (at + 2)) .1 h)

@@ -164,7 +164,7 @@ book-rules {b} h =
       fewNames = λ i l. h .alternatives i l .names .few;
       fewAsks = λ i l. h .alternatives i l .asks .few;
       names = h .names;
-      asks = λ i l. let q = h .atoms (λ z. omega arith) i l in record { left = q .left; right = q .right; bounds = q .bounds };
+      asks = λ i l. let q = h .atoms (λ z. omega arith) i l in record { left = q .left; right = q .right; bounds = q .bounds; jobs = q .jobs };
     })
 
 -- whatever alternatives ask, in the papers' words

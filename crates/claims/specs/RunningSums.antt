@@ -9,7 +9,7 @@ use native.Mathlib.Omega.{arith}
 use lib.ListN.{length}
 use borrow.Author.Tests.{ne-eqb}
 use Rattle.layout.specs.Layout.{count}
-use Rattle.lines.specs.Lines.{lineFirst, lineCount}
+use Rattle.lines.specs.Lines.{lineFirst, lineCount, tokenWidth}
 use Rattle.lines.specs.Fault.{sumBefore}
 use Rattle.claims.specs.Wrongs.{Tables}
 
@@ -45,7 +45,8 @@ module _ (p : List ℕ) (n : ℕ) where
   running-sums = (λ f. sums-upto f n (omega arith), λ h v l. h v l ∙ sym (sum-is v (λ k m. h k (omega arith))))
 
 -- of a plan whose tables are right: first tokens are running sums, and "tokens end at the length"
-pub first-tokens : (b p : List ℕ) → Tables b p → RunningSums p (count b 0) × (3 + 2 * count b 0 + 2 * tokensBefore p (count b 0) ≡ length p)
+pub first-tokens : (b p : List ℕ) → Tables b p
+    → RunningSums p (count b 0) × (3 + 2 * count b 0 + tokenWidth p * tokensBefore p (count b 0) ≡ length p)
 first-tokens b p t =
     let sums = running-sums p (count b 0) .0 (t .head .follow) in
-    (sums, ap (λ (x : ℕ). 3 + 2 * count b 0 + 2 * x) (sym (sum-is p (count b 0) (count b 0) sums)) ∙ t .whole)
+    (sums, ap (λ (x : ℕ). 3 + 2 * count b 0 + tokenWidth p * x) (sym (sum-is p (count b 0) (count b 0) sums)) ∙ t .whole)

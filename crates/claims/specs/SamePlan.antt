@@ -16,7 +16,7 @@ use Rattle.layout.specs.Layout.{count, field, valuesOf}
 use Rattle.layout.proofs.Tests.{or-right, not-so}
 use Rattle.book.specs.Sound.{Sound}
 use Rattle.book.proofs.Inside.{in-range}
-use Rattle.lines.specs.Lines.{lineCount, linePlace, tokensFrom, lineOf, valueOf, durationOf, startOf}
+use Rattle.lines.specs.Lines.{lineCount, tokenWidth, linePlace, tokensFrom, lineOf, valueOf, durationOf, startOf}
 use Rattle.clock.specs.Clock.{lastTick}
 use Rattle.lines.specs.Fault.{lengthFault, headWrong, headFault, endFault}
 use Rattle.plan.proofs.Good.{outside-right}
@@ -144,14 +144,16 @@ module _ (b p : List ℕ) where
       by false e f = e
 
 -- tokens with positive durations have a length
-tokens-proper : (p : List ℕ) (n place start : ℕ) → ((j : ℕ) → j < n → 0 < word p (place + 2 * j + 1)) → All Proper (tokensFrom p n place start)
+tokens-proper : (p : List ℕ) (n place start : ℕ)
+    → ((j : ℕ) → j < n → 0 < word p (place + tokenWidth p * j + 1)) → All Proper (tokensFrom p n place start)
 unfolding tokensFrom
 tokens-proper p zero place start h = tt
 tokens-proper p (suc n) place start h =
-    let first : place + 2 * 0 + 1 ≡ place + 1 = omega arith in
-    let next : (j : ℕ) → place + 2 + 2 * j + 1 ≡ place + 2 * suc j + 1 = λ j. omega arith in
+    let w = tokenWidth p in
+    let first : place + w * 0 + 1 ≡ place + 1 = omega arith in
+    let next : (j : ℕ) → place + w + w * j + 1 ≡ place + w * suc j + 1 = λ j. omega arith in
     let long : 0 < word p (place + 1) = rw first at (h 0 (omega arith)) in
-    (omega arith, tokens-proper p n (place + 2) _ (λ j l. rw (next j) (h (suc j) (omega arith))))
+    (omega arith, tokens-proper p n (place + w) _ (λ j l. rw (next j) (h (suc j) (omega arith))))
 
 -- "durations are positive": each token of a plan without the faults 5 to 11 has a length
 pub lines-proper : {e : ℕ} {b : List ℕ} → Sound e b → (p : List ℕ) → planFault b p .number ≡ 0 → (v : ℕ) → v < count b 0 → All Proper (lineOf p v)

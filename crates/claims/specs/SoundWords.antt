@@ -81,7 +81,11 @@ module _ {b : List ℕ} (s : Sound 1 b) where
         omega arith,
         elim (ℕ-discrete kind 2) [
           | yes q ↦ omega (arith, t .point q)
-          | no m ↦ elim (ℕ-discrete kind 3) [ yes q ↦ omega (arith, t .last q) | no o ↦ omega (arith, t .token (omega arith) .named) ]
+          | no m ↦
+              elim (ℕ-discrete kind 3) [
+                | yes q ↦ omega (arith, t .last q)
+                | no o ↦ elim (ℕ-discrete kind 4) [ yes q ↦ omega (arith, t .job q .named) | no j ↦ omega (arith, t .token (omega arith) .named) ]
+              ]
         ],
       )
 

@@ -21,12 +21,12 @@ use Rattle.book.specs.Fault as book
 use Rattle.book.specs.Rules.{nameAt, atomAt, constraintAt, alternativeAt, ruleAt, rulesOf}
 use Rattle.book.specs.Encode.{bookOf}
 use Rattle.book.proofs.Specimen.{bookE, sheetE, same}
-use Rattle.lines.specs.Lines.{tokensFrom, lineOf}
+use Rattle.lines.specs.Lines.{tokenWidth, jobAt, tokensFrom, lineOf}
 use Rattle.lines.specs.Ends.{endFrom, endsApart, endsFault}
 use Rattle.plan.specs.Fault as plan
 use Rattle.allen.specs.Relation.{relationOf}
 use Rattle.allen.specs.Atoms.{atomsOf}
-use Rattle.choice.specs.Met.{put, tokenTime, endTime, timeOf, atomHolds, constraintHolds, place, alternativeMet, met}
+use Rattle.choice.specs.Met.{put, tokenTime, tokenJob, endTime, timeOf, boundsHold, atomHolds, constraintHolds, place, alternativeMet, met}
 use Rattle.verdict.specs.Judged.{counted, triggerLine, isTrigger, examined, unmet, firstUnmet, ruleUnmet, rulesFault, judged, judgedSheet}
 use Rattle.listing.specs.Expand.{keep, relationsIn, choices, atomsFor, expand, translate}
 use Rattle.translator.specs.Translation.{rulesFor, translated, tooMany, ruleFault, sizeFault, roomFault, translation}
@@ -82,6 +82,17 @@ truckBook =
     ∷ 0 ∷ 1 ∷ 0 ∷ 3
     ∷ 0 ∷ 1
     ∷ 0 ∷ 1 ∷ 0 ∷ 0 ∷ 0 ∷ noLimit ∷ 1 ∷ 0 ∷ 1 ∷ 1 ∷ 0 ∷ noLimit ∷ 1 ∷ 0 ∷ 3 ∷ 0 ∷ 20 ∷ noLimit ∷ []
+
+-- 02, L7: a rule without trigger, two names of one value: "job of 1 = job of 2", and 1 starts before 2
+abbrev pub jobBook : List ℕ
+jobBook =
+    1 ∷ 43 ∷ 1 ∷ 14 ∷ 1 ∷ 16 ∷ 1 ∷ 19 ∷ 1 ∷ 23 ∷ 2 ∷ 27 ∷ 2 ∷ 31
+    ∷ 0 ∷ 1
+    ∷ 1 ∷ noLimit ∷ 1
+    ∷ noLimit ∷ 0 ∷ 0 ∷ 1
+    ∷ 0 ∷ 2 ∷ 0 ∷ 2
+    ∷ 0 ∷ 0 ∷ 0 ∷ 0
+    ∷ 4 ∷ 1 ∷ 4 ∷ 2 ∷ 0 ∷ 0 ∷ 0 ∷ 1 ∷ 0 ∷ 2 ∷ 1 ∷ noLimit ∷ []
 
 -- what document 01 says of an input
 pub data Specimen : Type 0 where
@@ -157,9 +168,19 @@ specimens =
     ∷ byBook (puts endBook 27 (3 ∷ 0 ∷ 3 ∷ 0 ∷ 1 ∷ noLimit ∷ [])) (1 ∷ 7 ∷ 1 ∷ 0 ∷ 1 ∷ 0 ∷ 1 ∷ []) (numbers 12 0 0)
     ∷ byBook truckBook planP2 (numbers 12 0 3)
     ∷ byBook (set truckBook 56 0) planP2 (numbers 0 2 0)
+    -- 02, L7: jobs 0 and N, N and N; edition 1 is "read with job 0 throughout", edition 3 "is refused 6", and 7 goes by the width; of three
+    -- tokens with the jobs 0, N, 0 only the first and the third go together
+    ∷ byBook jobBook (2 ∷ 11 ∷ 1 ∷ 0 ∷ 2 ∷ 0 ∷ 5 ∷ 0 ∷ 0 ∷ 5 ∷ noLimit ∷ []) (numbers 12 0 0)
+    ∷ byBook jobBook (2 ∷ 11 ∷ 1 ∷ 0 ∷ 2 ∷ 0 ∷ 5 ∷ noLimit ∷ 0 ∷ 5 ∷ noLimit ∷ []) (numbers 0 1 0)
+    ∷ byBook jobBook (1 ∷ 9 ∷ 1 ∷ 0 ∷ 2 ∷ 0 ∷ 5 ∷ 0 ∷ 5 ∷ []) (numbers 0 1 0)
+    ∷ byBook jobBook (3 ∷ 9 ∷ 1 ∷ 0 ∷ 2 ∷ 0 ∷ 5 ∷ 0 ∷ 5 ∷ []) (numbers 6 0 0)
+    ∷ byBook jobBook (2 ∷ 9 ∷ 1 ∷ 0 ∷ 2 ∷ 0 ∷ 5 ∷ 0 ∷ 5 ∷ []) (numbers 7 0 0)
+    ∷ byBook jobBook (1 ∷ 11 ∷ 1 ∷ 0 ∷ 2 ∷ 0 ∷ 5 ∷ 0 ∷ 0 ∷ 5 ∷ noLimit ∷ []) (numbers 7 0 0)
+    ∷ byBook jobBook (2 ∷ 14 ∷ 1 ∷ 0 ∷ 3 ∷ 0 ∷ 5 ∷ 0 ∷ 0 ∷ 5 ∷ noLimit ∷ 0 ∷ 5 ∷ 0 ∷ []) (numbers 0 1 0)
+    ∷ bySheet sheetE (2 ∷ 7 ∷ 2 ∷ 0 ∷ 0 ∷ 0 ∷ 0 ∷ []) (numbers 0 0 0)
     ∷ []
 
 -- THE CLAIM: every specimen is as stated
 pub all-stand : all stands specimens ≡ true
-unfolding all any flatMap orElse least first run rows inSet inBounds fifthWidth fifthMost begins headerWrong starts owner setWrong valueTests fifthTestsOf fifthTests wrongWord recordWrong leaves tableWrong toldWord book.lengthFault book.headerFault book.endFault book.recordFault book.bookFault nameAt atomAt constraintAt alternativeAt ruleAt rulesOf bookOf tokensFrom lineOf plan.lengthFault plan.sumBefore plan.headWrong plan.headFault plan.endFault plan.startOf plan.durationOutside plan.notSuccessor plan.tokenFault plan.tokenWrong plan.firstToken plan.lineWrong plan.tokensFault plan.planFault endFrom endsApart endsFault relationOf atomsOf put tokenTime endTime timeOf atomHolds constraintHolds place alternativeMet met counted triggerLine isTrigger examined unmet firstUnmet ruleUnmet rulesFault judged judgedSheet keep relationsIn choices atomsFor expand translate rulesFor translated tooMany ruleFault sizeFault roomFault translation
+unfolding all any flatMap orElse least first run rows inSet inBounds fifthWidth fifthMost begins headerWrong starts owner setWrong valueTests fifthTestsOf fifthTests wrongWord recordWrong leaves tableWrong toldWord book.lengthFault book.headerFault book.endFault book.recordFault book.bookFault nameAt atomAt constraintAt alternativeAt ruleAt rulesOf bookOf tokenWidth jobAt tokensFrom lineOf plan.lengthFault plan.sumBefore plan.headWrong plan.headFault plan.endFault plan.startOf plan.durationOutside plan.notSuccessor plan.tokenFault plan.tokenWrong plan.firstToken plan.lineWrong plan.tokensFault plan.planFault endFrom endsApart endsFault relationOf atomsOf put tokenTime tokenJob endTime timeOf boundsHold atomHolds constraintHolds place alternativeMet met counted triggerLine isTrigger examined unmet firstUnmet ruleUnmet rulesFault judged judgedSheet keep relationsIn choices atomsFor expand translate rulesFor translated tooMany ruleFault sizeFault roomFault translation
 all-stand = refl

@@ -21,6 +21,7 @@ use Rattle.records.specs.Wrong.{valueUnknown}
 use Rattle.book.specs.Fault.{lowest, toldWord}
 use Rattle.book.specs.Fault as book
 use Rattle.lines.specs.declared.Token.{Token}
+use Rattle.lines.specs.Lines.{tokenWidth}
 use Rattle.lines.specs.Ends.{firstApart, endsFault}
 use Rattle.plan.specs.Fault as plan
 use Rattle.choice.specs.Met.{Choice}
@@ -268,7 +269,10 @@ plan-owned b p last h =
         own-test (ltb (length p) (3 + 2 * count b 0) || ltb 16384 (length p)) 5 0 0,
         (
           own-test (ltb k (3 + 2 * count b 0)) 6 k 0,
-          (own-end (eqb (3 + 2 * count b 0 + 2 * plan.sumBefore p (count b 0)) (length p)) 7, (tokens-own b p, (own-test (ltb v (count b 0)) 18 v 0, tt))),
+          (
+            own-end (eqb (3 + 2 * count b 0 + tokenWidth p * plan.sumBefore p (count b 0)) (length p)) 7,
+            (tokens-own b p, (own-test (ltb v (count b 0)) 18 v 0, tt)),
+          ),
         ),
       ),
     )

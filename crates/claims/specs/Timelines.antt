@@ -16,7 +16,7 @@ use Rattle.book.specs.Sound.{Sound}
 use Rattle.book.proofs.Inside.{in-range}
 use Rattle.book.specs.Rules.{Variable, valueAt, variableAt, variablesOf}
 use Rattle.lines.specs.declared.Token.{Token}
-use Rattle.lines.specs.Lines.{token, lineCount, lineOf}
+use Rattle.lines.specs.Lines.{token, lineCount, jobOf, lineOf}
 use Rattle.lines.specs.Ends.{endFrom, lineEnd, planEnd}
 use Rattle.plan.specs.Fault as plan
 use Rattle.lines.proofs.Laws.{line-length, line-token}
@@ -105,6 +105,10 @@ module _ (b : List ℕ) (v : ℕ) (here : v < count b 0) where
       let is = value-at k l in
       (λ h. rw is at (h .bit), λ h. record { bit = rw is h })
 
+-- token i of line v, as its words have it
+abbrev tokenAt : List ℕ → ℕ → ℕ → Token
+tokenAt p v i = token (plan.valueOf p v i) (plan.startOf p v i) (plan.startOf p v i + plan.durationOf p v i) (jobOf p v i)
+
 -- ---- a token keeps what the state variable asks just where none of the tests 8, 9, 10, 11 finds a fault
 
 module _ (b p : List ℕ) (v : ℕ) (here : v < count b 0) (j : ℕ) (there : j < lineCount p v)
@@ -114,8 +118,7 @@ module _ (b p : List ℕ) (v : ℕ) (here : v < count b 0) (j : ℕ) (there : j 
   token-keeps =
       let is = line-token p v j nobody there in
       let long = values-length b v here in
-      let before : (i : ℕ) → suc i ≡ j → tokenOf (lineOf p v) i ≡ token (plan.valueOf p v i) (plan.startOf p v i) (plan.startOf p v i + plan.durationOf p v i) = λ i e.
-      line-token p v i nobody (omega arith) in
+      let before : (i : ℕ) → suc i ≡ j → tokenOf (lineOf p v) i ≡ tokenAt p v i = λ i e. line-token p v i nobody (omega arith) in
       let took : plan.startOf p v j + plan.durationOf p v j - plan.startOf p v j ≡ plan.durationOf p v j = omega arith in (
         λ g.
             record {
@@ -151,7 +154,7 @@ module _ {e : ℕ} {b : List ℕ} (s : Sound e b) (p : List ℕ) where
       let in-line : (i : ℕ) → i < length (lineOf p v) → i < lineCount p v = λ i h. omega arith in
       let keeps : (i : ℕ) → i < lineCount p v → TokenKeeps (variableOf b v) (lineOf p v) i = λ i h.
       token-keeps b p v l i h (λ k q. g k (omega arith) .known) .0 (g i h) in
-      let is : (i : ℕ) → i < lineCount p v → tokenOf (lineOf p v) i ≡ token (plan.valueOf p v i) (plan.startOf p v i) (plan.startOf p v i + plan.durationOf p v i) = λ i h. line-token p v i nobody h in
+      let is : (i : ℕ) → i < lineCount p v → tokenOf (lineOf p v) i ≡ tokenAt p v i = λ i h. line-token p v i nobody h in
       record {
         value = λ i h. keeps i (in-line i h) .value;
         lasts = λ i h. keeps i (in-line i h) .lasts;

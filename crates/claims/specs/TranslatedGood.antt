@@ -211,7 +211,7 @@ module _ (s : List ℕ) (sound : Sound 2 s) where
               asks = range-sound ask-ranges i l (omega arith) (f .fewAsks i l);
             };
         names = f .names;
-        atoms = λ h i l. let a = f .asks i l in record { left = a .left; right = a .right; bounds = a .bounds };
+        atoms = λ h i l. let a = f .asks i l in record { left = a .left; right = a .right; bounds = a .bounds; jobs = a .jobs };
         constraints = λ h. absurd (omega arith);
         valuesUsed = starts-kept (count s 0) (omega arith) ∙ sound .valuesUsed;
         alternativesUsed = rule-ranges .used;

@@ -12,9 +12,10 @@ use Rattle.words.specs.Words.{inSet}
 use Rattle.words.specs.Lists.{All, all-get}
 use Rattle.words.specs.Least.{Clear}
 use Rattle.words.specs.Runs.{run}
+use Rattle.clock.specs.Clock.{noLimit}
 use Rattle.layout.specs.Layout.{fifthMost}
 use Rattle.book.specs.Rules.{Atom, Constraint, Alternative, Rule}
-use Rattle.book.specs.Sound.{BoundsSound, Exist, TokenSound, TermSound}
+use Rattle.book.specs.Sound.{BoundsSound, Exist, TokenSound, TermSound, JobSound}
 use Rattle.allen.specs.Relation.{thirteen}
 use Rattle.allen.specs.Atoms.{Term, start, end, _<·_, _=·_, relations, atomsOf}
 use Rattle.listing.specs.Expand.{keep, relationsIn, choices, atomsFor, expand, translate}
@@ -27,25 +28,59 @@ pub record AtomFine (n : ℕ) (trigger : Bool) (a : Atom) : Type 0 where
   pub left : TermSound n trigger (a .leftKind) (a .left)
   pub right : TermSound n trigger (a .rightKind) (a .right)
   pub bounds : BoundsSound 0 (a .lower) (a .upper)
+  pub jobs : JobSound (a .leftKind) (a .rightKind) (a .lower) (a .upper)
 
 -- ---- the atoms of a relation
 
 module _ (n : ℕ) (trigger : Bool) where
-  -- start and end of a token that exists exist
-  abbrev TermFine : Term → Type 0
-  TermFine p = TermSound n trigger (p .kind) (p .token)
+  -- start and end of a token that exists exist, and are times
+  record TermFine (p : Term) : Type 0 where
+    term : TermSound n trigger (p .kind) (p .token)
+    times : p .kind < 2
+
+  time-fine : (kind k : ℕ) → kind < 2 → TokenSound n trigger k → TermSound n trigger kind k
+  time-fine kind k l h =
+      record {
+        kinds = omega arith;
+        point = λ e. absurd (omega arith);
+        last = λ e. absurd (omega arith);
+        token = λ _. h;
+        job = λ e. absurd (omega arith);
+      }
 
   start-fine : (k : ℕ) → TokenSound n trigger k → TermFine (start k)
-  start-fine k h = record { kinds = omega arith; point = λ e. absurd (omega arith); last = λ e. absurd (omega arith); token = λ l. h }
+  start-fine k h = record { term = time-fine 0 k (omega arith) h; times = omega arith }
 
   end-fine : (k : ℕ) → TokenSound n trigger k → TermFine (end k)
-  end-fine k h = record { kinds = omega arith; point = λ e. absurd (omega arith); last = λ e. absurd (omega arith); token = λ l. h }
+  end-fine k h = record { term = time-fine 1 k (omega arith) h; times = omega arith }
+
+  -- so no atom of them is one of jobs
+  no-jobs : {p q : Term} → TermFine p → TermFine q → (lower upper : ℕ) → JobSound (p .kind) (q .kind) lower upper
+  no-jobs h k lower upper =
+      record {
+        both = λ e. absurd (omega (arith, h .times));
+        back = λ e. absurd (omega (arith, k .times));
+        low = λ e. absurd (omega (arith, h .times));
+        high = λ e. absurd (omega (arith, h .times));
+      }
 
   less-fine : (p q : Term) → TermFine p → TermFine q → AtomFine n trigger (p <· q)
-  less-fine p q h k = record { left = h; right = k; bounds = record { from = omega arith; tick = omega arith; order = omega arith; limit = inr refl } }
+  less-fine p q h k =
+      record {
+        left = h .term;
+        right = k .term;
+        bounds = record { from = omega arith; tick = omega arith; order = omega arith; limit = inr refl };
+        jobs = no-jobs h k 1 noLimit;
+      }
 
   equal-fine : (p q : Term) → TermFine p → TermFine q → AtomFine n trigger (p =· q)
-  equal-fine p q h k = record { left = h; right = k; bounds = record { from = omega arith; tick = omega arith; order = omega arith; limit = inl (omega arith) } }
+  equal-fine p q h k =
+      record {
+        left = h .term;
+        right = k .term;
+        bounds = record { from = omega arith; tick = omega arith; order = omega arith; limit = inl (omega arith) };
+        jobs = no-jobs h k 0 0;
+      }
 
   -- the atoms of all thirteen relations of two tokens that exist
   relations-fine : (l r : ℕ) → TokenSound n trigger l → TokenSound n trigger r → All (All (AtomFine n trigger)) (relations l r)

@@ -1,6 +1,6 @@
 -- The tests of the fault table's rows 1 to 7 but 4 say just what Wrongs says in plain facts; RecordTests has those of 4. Assumes nothing.
 use mathlib.Core.Path.{_≡_, refl, sym, ap, _∙_, subst}
-use mathlib.Core.Bool.{Bool, true, false, _||_, not, true≢false, false≢true}
+use mathlib.Core.Bool.{Bool, true, false, _||_, _&&_, not, true≢false, false≢true}
 use mathlib.Core.Logic.{_↔_, _⊎_, inl, inr, ⊎-elim}
 use mathlib.Core.List.{List}
 use Prim.Native.Nat.{ℕ, zero, suc, _+_, _-_, _*_, _/_, _%_, _<_}
@@ -8,6 +8,7 @@ use native.Mathlib.Decide.{ℕ-discrete}
 use native.Mathlib.Omega.{arith}
 use lib.Dec.{ltb, eqb}
 use borrow.Author.Tests.{ltb-true, ltb-false, lt-ltb, le-ltb, eqb-false, eq-eqb, ne-eqb, not-true}
+use Rattle.words.specs.Words.{word}
 use Rattle.words.specs.Least.{least, Clear, least-law, least-at, least-end}
 use Rattle.layout.specs.Layout.{fewest, most, count, offset, begins, headerWrong, unused}
 use Rattle.book.specs.Fault.{leaves}
@@ -21,6 +22,11 @@ use Rattle.claims.specs.Wrongs.{First, None, HeaderWrong, edition, total
 pub or-so : (a c : Bool) → ((a || c) ≡ true) ↔ ((a ≡ true) ⊎ (c ≡ true))
 or-so true c = (λ h. inl refl, λ h. refl)
 or-so false c = (λ h. inr h, λ h. ⊎-elim (λ q. absurd (false≢true q)) (λ q. q) h)
+
+-- one and the other is so
+pub both-so : (a c : Bool) → ((a && c) ≡ true) ↔ ((a ≡ true) × (c ≡ true))
+both-so true c = (λ h. (refl, h), λ h. h .1)
+both-so false c = (λ h. absurd (false≢true h), λ h. h .0)
 
 -- two numbers are not equal
 pub not-eq : (x y : ℕ) → (not (eqb x y) ≡ true) ↔ (x ≡ y → ⊥)
@@ -151,7 +157,7 @@ module _ (b p : List ℕ) where
   -- each word before the tokens
   head-to : (k : ℕ) → headWrong b p k ≡ true → HeadWrong b p k
   unfolding headWrong
-  head-to zero h = edition (not-eq _ _ .0 h)
+  head-to zero h = let q = both-so (not (eqb (word p 0) 1)) (not (eqb (word p 0) 2)) .0 h in edition (not-eq _ _ .0 (q .0)) (not-eq _ _ .0 (q .1))
   head-to (suc zero) h = total (not-eq _ _ .0 h)
   head-to (suc (suc zero)) h = timelines (not-eq _ _ .0 h)
   head-to (suc (suc (suc m))) h =
@@ -167,7 +173,7 @@ module _ (b p : List ℕ) where
 
   head-from : (k : ℕ) → HeadWrong b p k → headWrong b p k ≡ true
   unfolding headWrong
-  head-from _ (edition h) = not-eq _ _ .1 h
+  head-from _ (edition h k) = both-so (not (eqb (word p 0) 1)) (not (eqb (word p 0) 2)) .1 (not-eq _ _ .1 h, not-eq _ _ .1 k)
   head-from _ (total h) = not-eq _ _ .1 h
   head-from _ (timelines h) = not-eq _ _ .1 h
   head-from _ (first v h) = first-test v .1 h

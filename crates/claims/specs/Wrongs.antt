@@ -10,7 +10,7 @@ use Rattle.clock.specs.Clock.{lastTick, noLimit}
 use Rattle.layout.specs.Layout.{fewest, most, width, count, offset, begins, recordAt, field, ends, starts, owner, valuesOf}
 use Rattle.records.specs.Wrong.{Range, valueRange, alternativeRange, nameRange, askRange}
 use Rattle.book.specs.Sound.{namesAt}
-use Rattle.lines.specs.Lines.{lineFirst, lineCount, lineOf}
+use Rattle.lines.specs.Lines.{lineFirst, lineCount, tokenWidth, lineOf}
 use Rattle.lines.specs.Ends.{lineEnd, planEnd}
 use Rattle.lines.specs.Fault.{sumBefore}
 use Rattle.lines.specs.Good.{HeadGood}
@@ -62,9 +62,19 @@ UpperWrong x y = (y < x) ⊎ ((lastTick < y) × (y ≡ noLimit → ⊥))
 abbrev pub NoToken : ℕ → ℕ → ℕ → Type 0
 NoToken n v x = (n < x) ⊎ ((x ≡ 0) × (v ≡ noLimit))
 
--- "A time point is 0..1,000,000,000"; "kind 3, end of the plan, argument 0"; for 0 and 1 the argument is a token
+-- "A time point is 0..1,000,000,000"; "kind 3, end of the plan, argument 0"; for 0 and 1 the argument is a token, and for 4 "as in kind 0"
 abbrev pub ArgumentWrong : ℕ → ℕ → ℕ → ℕ → Type 0
-ArgumentWrong n v kind x = ((kind ≡ 2) × (lastTick < x)) ⊎ (((kind ≡ 3) × (x ≡ 0 → ⊥)) ⊎ ((kind < 2) × NoToken n v x))
+ArgumentWrong n v kind x =
+    ((kind ≡ 2) × (lastTick < x))
+    ⊎ (((kind ≡ 3) × (x ≡ 0 → ⊥)) ⊎ (((kind < 2) × NoToken n v x) ⊎ ((kind ≡ 4) × NoToken n v x)))
+
+-- there is no such kind, or kind 4 doesn't stand "on both sides of an atom or on neither"
+abbrev pub RightKindWrong : ℕ → ℕ → Type 0
+RightKindWrong left right = (4 < right) ⊎ (((left ≡ 4) × (right ≡ 4 → ⊥)) ⊎ ((left ≡ 4 → ⊥) × (right ≡ 4)))
+
+-- of jobs "its bounds must be 0 and 0"
+abbrev pub JobBoundWrong : ℕ → ℕ → Type 0
+JobBoundWrong left x = (left ≡ 4) × (x ≡ 0 → ⊥)
 
 -- the trigger variable of the rule that record i of table 5 belongs to
 abbrev pub triggerOf : ℕ → List ℕ → ℕ → ℕ
@@ -96,12 +106,12 @@ pub data WordWrong (e : ℕ) (b : List ℕ) (i : ℕ) : ℕ → ℕ → Type 0 w
   nameVariable : count b 0 ≤ field e b 4 i 0 → WordWrong e b i 4 0
   nameValue : valuesOf e b (field e b 4 i 0) ≤ field e b 4 i 1 → WordWrong e b i 4 1
   -- a book's table 5: "left kind, left argument, right kind, right argument, lower, upper"
-  leftKind : (e ≡ 2 → ⊥) → 3 < word b (recordAt e b 5 i) → WordWrong e b i 5 0
+  leftKind : (e ≡ 2 → ⊥) → 4 < word b (recordAt e b 5 i) → WordWrong e b i 5 0
   leftArgument : (e ≡ 2 → ⊥) → ArgumentWrong (namesAt e b i) (triggerOf e b i) (word b (recordAt e b 5 i)) (field e b 5 i 1) → WordWrong e b i 5 1
-  rightKind : (e ≡ 2 → ⊥) → 3 < field e b 5 i 2 → WordWrong e b i 5 2
+  rightKind : (e ≡ 2 → ⊥) → RightKindWrong (word b (recordAt e b 5 i)) (field e b 5 i 2) → WordWrong e b i 5 2
   rightArgument : (e ≡ 2 → ⊥) → ArgumentWrong (namesAt e b i) (triggerOf e b i) (field e b 5 i 2) (field e b 5 i 3) → WordWrong e b i 5 3
-  lower : (e ≡ 2 → ⊥) → LowerWrong 0 (field e b 5 i 4) → WordWrong e b i 5 4
-  upper : (e ≡ 2 → ⊥) → UpperWrong (field e b 5 i 4) (field e b 5 i 5) → WordWrong e b i 5 5
+  lower : (e ≡ 2 → ⊥) → LowerWrong 0 (field e b 5 i 4) ⊎ JobBoundWrong (word b (recordAt e b 5 i)) (field e b 5 i 4) → WordWrong e b i 5 4
+  upper : (e ≡ 2 → ⊥) → UpperWrong (field e b 5 i 4) (field e b 5 i 5) ⊎ JobBoundWrong (word b (recordAt e b 5 i)) (field e b 5 i 5) → WordWrong e b i 5 5
   -- a sheet's: "left token, right token (0 the trigger, as above), and a set, 1..8,191"
   leftToken : e ≡ 2 → NoToken (namesAt e b i) (triggerOf e b i) (word b (recordAt e b 5 i)) → WordWrong e b i 5 0
   rightToken : e ≡ 2 → NoToken (namesAt e b i) (triggerOf e b i) (field e b 5 i 1) → WordWrong e b i 5 1
@@ -136,10 +146,10 @@ TableBad e b t i j =
 abbrev pub PlanSized : List ℕ → List ℕ → Type 0
 PlanSized b p = (3 + 2 * count b 0 ≤ length p) × (length p ≤ 16384)
 
--- 6 "first wrong word before the tokens": "edition 1, total words, number of timelines (that of the book's variables); then for each
--- timeline its first token and token count (0..512)"
+-- 6 "first wrong word before the tokens": edition 1 or 2 ("any other edition is refused 6"), "total words, number of timelines (that of the
+-- book's variables); then for each timeline its first token and token count (0..512)"
 pub data HeadWrong (b p : List ℕ) : ℕ → Type 0 where
-  edition : (word p 0 ≡ 1 → ⊥) → HeadWrong b p 0
+  edition : (word p 0 ≡ 1 → ⊥) → (word p 0 ≡ 2 → ⊥) → HeadWrong b p 0
   total : (word p 1 ≡ length p → ⊥) → HeadWrong b p 1
   timelines : (word p 2 ≡ count b 0 → ⊥) → HeadWrong b p 2
   first : (v : ℕ) → (lineFirst p v ≡ sumBefore p v → ⊥) → HeadWrong b p (3 + 2 * v)
@@ -153,4 +163,4 @@ EndsApart p v = lineEnd (lineOf p v) ≡ planEnd (lineOf p) → ⊥
 pub record Tables (b p : List ℕ) : Type 0 where
   pub sized : PlanSized b p
   pub head : HeadGood b p
-  pub whole : 3 + 2 * count b 0 + 2 * sumBefore p (count b 0) ≡ length p
+  pub whole : 3 + 2 * count b 0 + tokenWidth p * sumBefore p (count b 0) ≡ length p

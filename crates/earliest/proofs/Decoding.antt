@@ -26,11 +26,12 @@ limits-fit {y = y} h = record {
   high = λ n. ⊎-elim (λ q. q) (λ q. absurd (n q)) (h .limit);
 }
 
-kind-fits : {n kind k : ℕ} {trigger : Bool} → n ≤ 4 → TermSound n trigger kind k → KindFits kind k
-kind-fits l h = record { kinds = omega (arith, h .kinds); point = h .point; token = λ q. omega (arith, h .token q .named) }
+kind-fits : {n kind k : ℕ} {trigger : Bool} → n ≤ 4 → (kind ≡ 4 → ⊥) → TermSound n trigger kind k → KindFits kind k
+kind-fits l ne h = record { kinds = omega (arith, h .kinds); point = h .point; token = λ q. omega (arith, h .token q .named) }
 
 atom-fits : {b : List ℕ} {at n : ℕ} {trigger : Bool} → n ≤ 4 → AtomSound b at n trigger → AtomFits b at
-atom-fits l h _ = record { left = kind-fits l (h .left); right = kind-fits l (h .right); limits = limits-fit (h .bounds) }
+atom-fits l h ne =
+    record { left = kind-fits l ne (h .left); right = kind-fits l (λ e. ne (h .jobs .back e)) (h .right); limits = limits-fit (h .bounds) }
 
 exist-as : {b : List ℕ} {u v x y : ℕ} → u ≡ x → v ≡ y → Exist 1 b u v → Exist 1 b x y
 exist-as p q h = rw (p, q) at h

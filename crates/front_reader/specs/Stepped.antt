@@ -1,4 +1,4 @@
--- What a step for C leaves in the four numbers lent to it. Assumes nothing.
+-- What a step for C leaves in the five numbers lent to it. Assumes nothing.
 use mathlib.Core.Path.{_≡_, refl, sym, _∙_}
 use mathlib.Core.Bool.{Bool, true, false, cond}
 use mathlib.Core.List.{List}
@@ -10,12 +10,12 @@ use Rattle.lines.specs.Walk.{names, stepOf}
 use Rattle.lines.specs.declared.Step.{Step}
 use Rattle.lines.specs.declared.Step.the-variants.{Handed, NoMore}
 
--- a token was handed out: its value and end, and the next position's token number and start; no more: all four as they were
-abbrev pub Stepped : Step → ℕ → ℕ → ℕ → ℕ → ℕ → ℕ → ℕ → ℕ → Type 0
-Stepped (Handed t next) token start value end token′ start′ value′ end′ =
-    (token′ ≡ next .token) × (start′ ≡ next .start .tick) × (value′ ≡ t .value) × (end′ ≡ t .end .tick)
-Stepped (NoMore at) token start value end token′ start′ value′ end′ =
-    (token′ ≡ token) × (start′ ≡ start) × (value′ ≡ value) × (end′ ≡ end)
+-- a token was handed out: its value, end and job, and the next position's token number and start; no more: all five as they were
+abbrev pub Stepped : Step → ℕ → ℕ → ℕ → ℕ → ℕ → ℕ → ℕ → ℕ → ℕ → ℕ → Type 0
+Stepped (Handed t next) token start value end job token′ start′ value′ end′ job′ =
+    (token′ ≡ next .token) × (start′ ≡ next .start .tick) × (value′ ≡ t .value) × (end′ ≡ t .end .tick) × (job′ ≡ t .job)
+Stepped (NoMore at) token start value end job token′ start′ value′ end′ job′ =
+    (token′ ≡ token) × (start′ ≡ start) × (value′ ≡ value) × (end′ ≡ end) × (job′ ≡ job)
 
 -- ---- laws
 
@@ -36,10 +36,11 @@ pub none : (p : List ℕ) (q : Position) (r : Step) (back : Position) → r ≡ 
 unfolding stepOf
 none p q r back e h = more-test (names p q) _ _ _ _ (sym e ∙ h)
 
-pub stepped : (p : List ℕ) (q : Position) (r : Step) (t : Token) (next : Position) (token start value end : ℕ) → r ≡ stepOf p q → r ≡ Handed t next
-    → Stepped (stepOf p q) token start value end (next .token) (next .start .tick) (t .value) (t .end .tick)
-stepped p q r t next token start value end e h = rw (sym e ∙ h) (refl, refl, refl, refl)
+pub stepped : (p : List ℕ) (q : Position) (r : Step) (t : Token) (next : Position) (token start value end job : ℕ)
+    → r ≡ stepOf p q → r ≡ Handed t next
+    → Stepped (stepOf p q) token start value end job (next .token) (next .start .tick) (t .value) (t .end .tick) (t .job)
+stepped p q r t next token start value end job e h = rw (sym e ∙ h) (refl, refl, refl, refl, refl)
 
-pub stayed : (p : List ℕ) (q : Position) (r : Step) (back : Position) (token start value end : ℕ) → r ≡ stepOf p q → r ≡ NoMore back
-    → Stepped (stepOf p q) token start value end token start value end
-stayed p q r back token start value end e h = rw (sym e ∙ h) (refl, refl, refl, refl)
+pub stayed : (p : List ℕ) (q : Position) (r : Step) (back : Position) (token start value end job : ℕ) → r ≡ stepOf p q → r ≡ NoMore back
+    → Stepped (stepOf p q) token start value end job token start value end job
+stayed p q r back token start value end job e h = rw (sym e ∙ h) (refl, refl, refl, refl, refl)

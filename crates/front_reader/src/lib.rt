@@ -36,7 +36,7 @@ pub extern "C" fn tteokbiran_open(
     *token = at.token;
 }
 
-// For C: a step on a timeline of lent words. Whether a token was handed out; then its value and end are there, and token and
+// For C: a step on a timeline of lent words. Whether a token was handed out; then its value, end and job are there, and token and
 // start are the next position's. Else nothing is changed.
 #[no_mangle]
 pub extern "C" fn tteokbiran_step(
@@ -46,9 +46,10 @@ pub extern "C" fn tteokbiran_step(
     start: &mut u64,
     value: &mut u32,
     end: &mut u64,
+    job: &mut u32,
 ) -> bool
     ensures { λ r. ⌜ r ≡ names (now (plan .entry)) (position line (now (token .entry)) (now (start .entry))) ⌝ }
-    ensures { λ _. ⌜ Stepped (stepOf (now (plan .entry)) (position line (now (token .entry)) (now (start .entry)))) (now (token .entry)) (now (start .entry)) (now (value .entry)) (now (end .entry)) (now (token .exit)) (now (start .exit)) (now (value .exit)) (now (end .exit)) ⌝ }
+    ensures { λ _. ⌜ Stepped (stepOf (now (plan .entry)) (position line (now (token .entry)) (now (start .entry)))) (now (token .entry)) (now (start .entry)) (now (value .entry)) (now (end .entry)) (now (job .entry)) (now (token .exit)) (now (start .exit)) (now (value .exit)) (now (end .exit)) (now (job .exit)) ⌝ }
 {
     let at = Position {
         line,
@@ -63,6 +64,7 @@ pub extern "C" fn tteokbiran_step(
             *start = begin.tick;
             *value = t.value;
             *end = stop.tick;
+            *job = t.job;
             true
         }
         Step::NoMore(_) => false,

@@ -7,7 +7,7 @@ use native.Mathlib.Omega.{arith}
 use borrow.Author.Tests.{lt-ltb, le-ltb, eq-eqb, ne-eqb}
 use Rattle.answers.specs.Numbers.{numbers, noFault}
 use Rattle.words.specs.Words.{word}
-use Rattle.lines.specs.Lines.{lineCount, linePlace, tokensFrom, lineOf}
+use Rattle.lines.specs.Lines.{lineCount, tokenWidth, linePlace, tokensFrom, lineOf}
 use Rattle.layout.specs.Layout.{count}
 use Rattle.lines.specs.Ends.{endFrom, lineEnd, endsApart, firstApart, endsFault}
 
@@ -17,11 +17,11 @@ unfolding lineOf
 line-start p v left at h k = rw (h, k)
 
 -- one token further: its end is where the rest begins
-pub rest-step : (p : List ℕ) (left at end d : ℕ) → 0 < left → d ≡ word p (at + 1)
-    → endFrom end (tokensFrom p left at end) ≡ endFrom (end + d) (tokensFrom p (left - 1) (at + 2) (end + d))
+pub rest-step : (p : List ℕ) (w left at end d : ℕ) → w ≡ tokenWidth p → 0 < left → d ≡ word p (at + 1)
+    → endFrom end (tokensFrom p left at end) ≡ endFrom (end + d) (tokensFrom p (left - 1) (at + w) (end + d))
 unfolding endFrom tokensFrom
-rest-step p zero at end d l h = absurd (omega arith)
-rest-step p (suc n) at end d l h = let e : suc n - 1 ≡ n = omega arith in rw (e, h)
+rest-step p w zero at end d k l h = absurd (omega arith)
+rest-step p w (suc n) at end d k l h = let e : suc n - 1 ≡ n = omega arith in rw (e, h, k)
 
 -- no token is left
 pub rest-none : (p : List ℕ) (left at end : ℕ) → left ≡ 0 → endFrom end (tokensFrom p left at end) ≡ end

@@ -1,4 +1,5 @@
 -- The laws of `lines`, for the proofs of this crate and of those that link it.
+pub mod Width
 pub mod Laws
 pub mod Ends
 pub mod Head

@@ -12,7 +12,7 @@ use Rattle.answers.specs.Numbers.{numbers, noFault, orElse, stages, stage, held
 use Rattle.words.specs.Least.{none-below}
 use Rattle.layout.specs.Layout.{count}
 use Rattle.layout.proofs.Tests.{or-right}
-use Rattle.lines.specs.Lines.{lineCount, linePlace}
+use Rattle.lines.specs.Lines.{lineCount, tokenWidth, linePlace}
 use Rattle.lines.specs.Fault.{lengthFault, sumBefore, headWrong, firstHead, headFault, endFault, linesFault}
 use Rattle.lines.proofs.Head.{head-good, line-inside}
 
@@ -33,17 +33,18 @@ module _ (b p : List ℕ) (start : ℕ) (begins : start ≡ 3 + 2 * count b 0) w
         let right = or-right (ltb (length p) start) (ltb 16384 (length p)) .0 long in
         omega (arith, ltb-false (length p) start (right .0), ltb-false 16384 (length p) (right .1))
 
-    module _ (l : start ≤ k) (sum : ℕ) (ends : sum ≡ sumBefore p (count b 0)) where
-      pub fault-end : (start + 2 * sum ≡ length p → ⊥) → numbers 7 0 0 ≡ linesFault b p
+    -- `taken` is how many words the tokens take
+    module _ (l : start ≤ k) (taken : ℕ) (ends : taken ≡ tokenWidth p * sumBefore p (count b 0)) where
+      pub fault-end : (start + taken ≡ length p → ⊥) → numbers 7 0 0 ≡ linesFault b p
       unfolding linesFault lengthFault headFault endFault orElse
-      fault-end z = rw (← head, ← ends, ← begins, long, le-ltb k start l, ne-eqb (start + 2 * sum) (length p) z)
+      fault-end z = rw (← head, ← ends, ← begins, long, le-ltb k start l, ne-eqb (start + taken) (length p) z)
 
-      pub no-fault : start + 2 * sum ≡ length p → noFault ≡ linesFault b p
+      pub no-fault : start + taken ≡ length p → noFault ≡ linesFault b p
       unfolding linesFault lengthFault headFault endFault orElse
-      no-fault z = rw (← head, ← ends, ← begins, long, le-ltb k start l, eq-eqb (start + 2 * sum) (length p) z)
+      no-fault z = rw (← head, ← ends, ← begins, long, le-ltb k start l, eq-eqb (start + taken) (length p) z)
 
 -- where there is no fault, every line's tokens are inside the plan
-pub lines-inside : (b p : List ℕ) → linesFault b p .number ≡ 0 → (v : ℕ) → v < count b 0 → linePlace p v + 2 * lineCount p v ≤ length p
+pub lines-inside : (b p : List ℕ) → linesFault b p .number ≡ 0 → (v : ℕ) → v < count b 0 → linePlace p v + tokenWidth p * lineCount p v ≤ length p
 unfolding linesFault headFault endFault
 lines-inside b p h =
     let s = stages _ _ .0 (stages _ _ .0 h .1) in

@@ -4,7 +4,7 @@ use mathlib.Core.List.{List}
 use Prim.Native.Nat.{ℕ, _+_, _≤_, _<_}
 use lib.Dec.{leb}
 use lib.ListN.{length}
-use borrow.Author.Tests.{lt-ltb, le-ltb}
+use borrow.Author.Tests.{lt-ltb, le-ltb, le-leb, lt-leb}
 use Rattle.words.specs.Words.{word}
 use Rattle.words.specs.Lists.{and-false}
 use Rattle.clock.specs.declared.Time.{Time}
@@ -14,7 +14,7 @@ use Rattle.clock.specs.Clock.{lastTick, at, later}
 use Rattle.clock.proofs.Laws.{case-past, case-at}
 use Rattle.lines.specs.declared.Position.{Position}
 use Rattle.lines.specs.declared.Step.the-variants.{Handed, NoMore}
-use Rattle.lines.specs.Lines.{lineCount}
+use Rattle.lines.specs.Lines.{lineCount, tokenWidth, jobAt}
 use Rattle.lines.specs.Walk.{tokenPlace, tokenEnd, names, stepOf}
 
 module _ (p : List ℕ) (q : Position) where
@@ -26,9 +26,9 @@ module _ (p : List ℕ) (q : Position) where
   unfolding stepOf names
   no-token h = simp (le-ltb (q .token) (lineCount p (q .line)) h, and-false)
 
-  pub no-words : length p ≤ tokenPlace p q + 1 → NoMore q ≡ stepOf p q
+  pub no-words : (place w : ℕ) → place ≡ tokenPlace p q → w ≡ tokenWidth p → length p < place + w → NoMore q ≡ stepOf p q
   unfolding stepOf names
-  no-words h = simp (le-ltb (tokenPlace p q + 1) (length p) h, and-false)
+  no-words place w here wide h = simp (lt-leb (tokenPlace p q + tokenWidth p) (length p) (rw (← here, ← wide) h), and-false)
 
   -- the token's end, as the time type adds it
   abbrev ending : Later
@@ -38,10 +38,20 @@ module _ (p : List ℕ) (q : Position) where
   unfolding stepOf names later
   no-time h = simp (case-past (leb (tokenEnd p q) lastTick) (at (tokenEnd p q)) h, and-false)
 
-  pub next-token : (x : ℕ) (end : Time) → q .line < word p 2 → q .token < lineCount p (q .line) → tokenPlace p q + 1 < length p → ending ≡ At end
-      → x ≡ word p (tokenPlace p q)
-      → Handed (record { value = x; start = q .start; end = end }) (record { line = q .line; token = q .token + 1; start = end }) ≡ stepOf p q
+  pub next-token : (place w x job : ℕ) (end : Time) → place ≡ tokenPlace p q → w ≡ tokenWidth p
+      → q .line < word p 2 → q .token < lineCount p (q .line)
+      → place + w ≤ length p → ending ≡ At end → x ≡ word p (tokenPlace p q) → job ≡ jobAt p (tokenPlace p q)
+      → Handed (record { value = x; start = q .start; end = end; job = job })
+      (record { line = q .line; token = q .token + 1; start = end }) ≡ stepOf p q
   unfolding stepOf names later
-  next-token x end l t w h e =
+  next-token place w x job end here wide l t i h e f =
       let z = case-at (leb (tokenEnd p q) lastTick) (at (tokenEnd p q)) end h in
-      rw (lt-ltb (q .line) (word p 2) l, lt-ltb (q .token) (lineCount p (q .line)) t, lt-ltb (tokenPlace p q + 1) (length p) w, z .0, e, ← z .1)
+      rw (
+        lt-ltb (q .line) (word p 2) l,
+        lt-ltb (q .token) (lineCount p (q .line)) t,
+        le-leb (tokenPlace p q + tokenWidth p) (length p) (rw (← here, ← wide) i),
+        z .0,
+        e,
+        f,
+        ← z .1,
+      )

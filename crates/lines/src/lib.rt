@@ -3,19 +3,20 @@ use answers::Answer;
 use clock::Later;
 use clock::Time;
 ghost use mathlib.Core.Path.{_≡_};
-ghost use Prim.Native.Nat.{_<_, _^_};
+ghost use Prim.Native.Nat.{_*_, _≤_, _<_, _^_};
 ghost use Rattle.answers.specs.Numbers.{numbersOf};
 ghost use Rattle.clock.specs.Clock.{noLimit};
-ghost use Rattle.lines.specs.Lines.{lineOf};
+ghost use Rattle.lines.specs.Lines.{tokenWidth, jobAt, linePlace, lineOf};
 ghost use Rattle.lines.specs.Ends.{lineEnd, planEnd, firstApart, endsFault};
 ghost use Rattle.lines.specs.Fault.{sumBefore, headWrong, firstHead, linesFault};
 ghost use Rattle.lines.specs.Walk.{position, stepOf};
 
-// A token of a timeline: its value, and when it starts and ends.
+// A token of a timeline: its value, when it starts and ends, and its job.
 pub struct Token {
     pub value: u32,
     pub start: Time,
     pub end: Time,
+    pub job: u32,
 }
 
 // A place on a timeline: its line, the number of the next token there, and when that starts.
@@ -29,6 +30,47 @@ pub struct Position {
 pub enum Step {
     Handed(Token, Position),
     NoMore(Position),
+}
+
+// How many words a token of the plan has.
+pub fn token_width(plan: &[u32]) -> usize
+    ensures { λ r. ⌜ (r ≡ tokenWidth (now (plan .entry))) × (2 ≤ r) × (r ≤ 3) ⌝ }
+{
+    if words::word_at(plan, 0) == 2 {
+        return 3;
+    }
+    2
+}
+
+// How many words so many tokens have.
+pub fn words_of(width: usize, tokens: usize) -> usize
+    requires { ⌜ (width ≤ 3) × (tokens < 2 ^ 40) ⌝ }
+    ensures { λ r. ⌜ (r ≡ width * tokens) × (r ≤ 3 * tokens) ⌝ }
+{
+    width * tokens
+}
+
+// The job of the token at a place.
+pub fn job_at(plan: &[u32], place: usize) -> u32
+    requires { ⌜ place < 2 ^ 60 ⌝ }
+    ensures { λ r. ⌜ r ≡ jobAt (now (plan .entry)) place ⌝ }
+{
+    let edition = words::word_at(plan, 0);
+    if edition == 2 {
+        return words::word_at(plan, place + 2);
+    }
+    0
+}
+
+// Where the tokens of line v stand.
+pub fn line_place(plan: &[u32], v: usize) -> usize
+    requires { ⌜ v < 2 ^ 40 ⌝ }
+    ensures { λ r. ⌜ (r ≡ linePlace (now (plan .entry)) v) × (r < 2 ^ 36) ⌝ }
+{
+    let lines = words::number_at(plan, 2);
+    let first = words::number_at(plan, 3 + 2 * v);
+    let width = token_width(plan);
+    3 + 2 * lines + words_of(width, first)
 }
 
 // What the first token of line v has to be: the running sum of the counts before it.
@@ -51,7 +93,7 @@ fn head_wrong(book: &[u32], plan: &[u32], k: usize) -> bool
 {
     let x = words::number_at(plan, k);
     if k == 0 {
-        return x != 1;
+        return (x != 1) & (x != 2);
     }
     if k == 1 {
         return x != plan.len();
@@ -95,7 +137,8 @@ pub fn check(book: &[u32], plan: &[u32]) -> Answer
         return Answer::PlanHeader { word: k as u32 };
     }
     let sum = sum_before(plan, n);
-    if start + 2 * sum != length {
+    let width = token_width(plan);
+    if start + words_of(width, sum) != length {
         return Answer::PlanEnd;
     }
     Answer::Done { a: 0, b: 0 }
@@ -106,14 +149,13 @@ fn line_end(plan: &[u32], v: usize) -> u64
     requires { ⌜ v < 2 ^ 32 ⌝ }
     ensures { λ r. ⌜ r ≡ lineEnd (lineOf (now (plan .entry)) v) ⌝ }
 {
-    let lines = words::number_at(plan, 2);
-    let first = words::number_at(plan, 3 + 2 * v);
+    let width = token_width(plan);
     let mut left = words::word_at(plan, 4 + 2 * v);
-    let mut at = 3 + 2 * lines + 2 * first;
+    let mut at = line_place(plan, v);
     let mut end: u64 = 0;
     while left > 0 {
         end += words::word_at(plan, at + 1) as u64;
-        at += 2;
+        at += width;
         left -= 1;
     }
     end
@@ -193,8 +235,9 @@ impl Position {
         if tokens <= k {
             return Step::NoMore(self);
         }
-        let at = 3 + 2 * lines + 2 * words::number_at(plan, 3 + 2 * l) + 2 * k;
-        if plan.len() <= at + 1 {
+        let width = token_width(plan);
+        let at = line_place(plan, l) + words_of(width, k);
+        if plan.len() < at + width {
             return Step::NoMore(self);
         }
         match start.plus(words::word_at(plan, at + 1)) {
@@ -204,6 +247,7 @@ impl Position {
                     value: words::word_at(plan, at),
                     start,
                     end,
+                    job: job_at(plan, at),
                 },
                 Position {
                     line,

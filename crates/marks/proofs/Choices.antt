@@ -17,7 +17,7 @@ use Rattle.choice.proofs.Laws.{put-first, put-else}
 use Rattle.marks.specs.Marked.{Grown, Ahead, Later}
 
 pub choice-set : (last : ℕ) (t : Token) (hs : List Token) (j : ℕ) (x : Token) → j < length hs → length hs ≤ 4
-    → choiceOf last t (set hs j x) ≡ put (choiceOf last t hs) (j + 1) (x .start .tick) (x .end .tick)
+    → choiceOf last t (set hs j x) ≡ put (choiceOf last t hs) (j + 1) (x .start .tick) (x .end .tick) (x .job)
 unfolding choiceOf chosen put
 choice-set last t [] j x l h = absurd (omega arith)
 choice-set last t (a ∷ []) zero x l h = refl
@@ -37,7 +37,7 @@ choice-set last t (a ∷ (b ∷ (c ∷ (d ∷ [])))) (suc (suc (suc (suc j)))) x
 choice-set last t (a ∷ (b ∷ (c ∷ (d ∷ (e ∷ hs))))) j x l h = absurd (omega arith)
 
 pub choice-more : (last : ℕ) (t : Token) (hs : List Token) (x : Token) → length hs < 4
-    → choiceOf last t (hs ++ (x ∷ [])) ≡ put (choiceOf last t hs) (length hs + 1) (x .start .tick) (x .end .tick)
+    → choiceOf last t (hs ++ (x ∷ [])) ≡ put (choiceOf last t hs) (length hs + 1) (x .start .tick) (x .end .tick) (x .job)
 unfolding choiceOf chosen put
 choice-more last t [] x h = refl
 choice-more last t (a ∷ []) x h = refl
@@ -49,17 +49,17 @@ choice-more last t (a ∷ (b ∷ (c ∷ (d ∷ hs)))) x h = absurd (omega arith)
 abbrev pub total : Choice → ℕ
 total r = tokenTime r 0 1 + tokenTime r 0 2 + tokenTime r 0 3 + tokenTime r 0 4
 
-pub total-falls : (r : Choice) (k a z : ℕ) → length r ≡ choiceSize → 1 ≤ k → k ≤ 4 → a < tokenTime r 0 k → total (put r k a z) < total r
-total-falls r zero a z h l g f = absurd (omega arith)
-total-falls r (suc zero) a z h l g f =
-    omega (arith, put-first r 1 a z (omega arith), put-else r 1 a z 0 2 (omega arith) (λ q. omega arith), put-else r 1 a z 0 3 (omega arith) (λ q. omega arith), put-else r 1 a z 0 4 (omega arith) (λ q. omega arith))
-total-falls r (suc (suc zero)) a z h l g f =
-    omega (arith, put-first r 2 a z (omega arith), put-else r 2 a z 0 1 (omega arith) (λ q. omega arith), put-else r 2 a z 0 3 (omega arith) (λ q. omega arith), put-else r 2 a z 0 4 (omega arith) (λ q. omega arith))
-total-falls r (suc (suc (suc zero))) a z h l g f =
-    omega (arith, put-first r 3 a z (omega arith), put-else r 3 a z 0 1 (omega arith) (λ q. omega arith), put-else r 3 a z 0 2 (omega arith) (λ q. omega arith), put-else r 3 a z 0 4 (omega arith) (λ q. omega arith))
-total-falls r (suc (suc (suc (suc zero)))) a z h l g f =
-    omega (arith, put-first r 4 a z (omega arith), put-else r 4 a z 0 1 (omega arith) (λ q. omega arith), put-else r 4 a z 0 2 (omega arith) (λ q. omega arith), put-else r 4 a z 0 3 (omega arith) (λ q. omega arith))
-total-falls r (suc (suc (suc (suc (suc k))))) a z h l g f = absurd (omega arith)
+pub total-falls : (r : Choice) (k a z j : ℕ) → length r ≡ choiceSize → 1 ≤ k → k ≤ 4 → a < tokenTime r 0 k → total (put r k a z j) < total r
+total-falls r zero a z j h l g f = absurd (omega arith)
+total-falls r (suc zero) a z j h l g f =
+    omega (arith, put-first r 1 a z j (omega arith), put-else r 1 a z j 0 2 (omega arith) (λ q. omega arith), put-else r 1 a z j 0 3 (omega arith) (λ q. omega arith), put-else r 1 a z j 0 4 (omega arith) (λ q. omega arith))
+total-falls r (suc (suc zero)) a z j h l g f =
+    omega (arith, put-first r 2 a z j (omega arith), put-else r 2 a z j 0 1 (omega arith) (λ q. omega arith), put-else r 2 a z j 0 3 (omega arith) (λ q. omega arith), put-else r 2 a z j 0 4 (omega arith) (λ q. omega arith))
+total-falls r (suc (suc (suc zero))) a z j h l g f =
+    omega (arith, put-first r 3 a z j (omega arith), put-else r 3 a z j 0 1 (omega arith) (λ q. omega arith), put-else r 3 a z j 0 2 (omega arith) (λ q. omega arith), put-else r 3 a z j 0 4 (omega arith) (λ q. omega arith))
+total-falls r (suc (suc (suc (suc zero)))) a z j h l g f =
+    omega (arith, put-first r 4 a z j (omega arith), put-else r 4 a z j 0 1 (omega arith) (λ q. omega arith), put-else r 4 a z j 0 2 (omega arith) (λ q. omega arith), put-else r 4 a z j 0 3 (omega arith) (λ q. omega arith))
+total-falls r (suc (suc (suc (suc (suc k))))) a z j h l g f = absurd (omega arith)
 
 -- a choice that is ahead at a name has a later token for it
 pub ahead-token : (last : ℕ) (t u : Token) (hs ts : List Token) (x : ℕ) → length hs ≤ 4 → length ts ≤ 4 → Ahead (choiceOf last t hs) (choiceOf last u ts) x
@@ -103,7 +103,7 @@ grown-tokens last n t u hs ts lh lt four l f = record { last = choice-end last t
     past (suc (suc z)) x k m = absurd (omega arith)
 
 -- the choice with another trigger token
-pub choice-trigger : (last : ℕ) (t u : Token) (hs : List Token) → length hs ≤ 4 → put (choiceOf last t hs) 0 (u .start .tick) (u .end .tick) ≡ choiceOf last u hs
+pub choice-trigger : (last : ℕ) (t u : Token) (hs : List Token) → length hs ≤ 4 → put (choiceOf last t hs) 0 (u .start .tick) (u .end .tick) (u .job) ≡ choiceOf last u hs
 unfolding choiceOf chosen put
 choice-trigger last t u [] h = refl
 choice-trigger last t u (a ∷ []) h = refl

@@ -16,11 +16,12 @@ use Rattle.words.specs.Words.{word}
 use Rattle.words.specs.Runs.{run, length-run, run-at}
 use Rattle.book.specs.Rules.{nameAt}
 use Rattle.lines.specs.declared.Token.{Token}
-use Rattle.lines.specs.Lines.{token, tokensFrom, lineOf}
+use Rattle.lines.specs.Lines.{token, tokenWidth, tokensFrom, lineOf}
+use Rattle.lines.proofs.Width.{width-few}
 use Rattle.lines.specs.Ends.{planEnd}
 use Rattle.choice.specs.declared.Alternative.{Alternative}
 use Rattle.choice.specs.declared.Tokens.{Tokens}
-use Rattle.choice.specs.Met.{Choice, choiceSize, timePlace, nobody, put, tokenTime}
+use Rattle.choice.specs.Met.{Choice, choiceSize, jobPlace, nobody, put, tokenTime}
 use Rattle.choice.specs.Exists.{Among, noName, chosen, choiceOf}
 use Rattle.choice.specs.Asked.{asksHold, triggeredIn, tokensOf}
 use Rattle.choice.proofs.Laws.{put-first, put-second, put-else, put-long}
@@ -35,9 +36,10 @@ pub later-same : (t : Token) → Later t t
 later-same t = record { start = omega arith; end = omega arith }
 
 -- the tokens behind a mark, as they were read
-pub next-read : (b : List ℕ) (a : Alternative) (k : ℕ) (c r : Choice) (v left q s : ℕ) → v ≡ word b (a .name + 2 * (k - 1) + 1) → left ≡ tokenTime r 0 k
-    → q ≡ tokenTime r 1 k → s ≡ tokenTime c 1 k → record { value = v; count = left - 1; place = q + 2; start = s } ≡ nextOf b a k c r
-next-read b a k c r v left q s hv hl hq hs = rw (hv, hl, hq, hs)
+pub next-read : (b p : List ℕ) (a : Alternative) (k : ℕ) (c r : Choice) (v left q w s : ℕ) → v ≡ word b (a .name + 2 * (k - 1) + 1) → left ≡ tokenTime r 0 k
+    → q ≡ tokenTime r 1 k → w ≡ tokenWidth p → s ≡ tokenTime c 1 k
+    → record { value = v; tied = false; job = 0; width = w; count = left - 1; place = q + w; start = s } ≡ nextOf b p a k c r
+next-read b p a k c r v left q w s hv hl hq hw hs = rw (hv, hl, hq, hw, hs)
 
 pub advanced-as : (p : List ℕ) (k : ℕ) (w w' : Tokens) (c r c' r' : Choice) (f : Bool) → w ≡ w' → Advanced p k w c r c' r' f → Advanced p k w' c r c' r' f
 advanced-as p k w w' c r c' r' f h g = rw h at g
@@ -79,7 +81,7 @@ module _ (b p : List ℕ) (a : Alternative) (t : Token) where
   marked-full i c r h f = let q : i ≡ a .names = omega (arith, f .few) in rw q at f
 
   marked-by : (i i' j : ℕ) (c c' r r' : Choice) (hs : List Token) (h : Token) (left q : ℕ) (old : Marked b p a t i c r)
-      → length hs ≡ i' → i' ≤ a .names → j < i' → c' ≡ choiceOf last t hs → r' ≡ put r (j + 1) left q → getD hs j nobody ≡ h
+      → length hs ≡ i' → i' ≤ a .names → j < i' → c' ≡ choiceOf last t hs → r' ≡ put r (j + 1) left q 0 → getD hs j nobody ≡ h
       → ((x : ℕ) → x < i' → (x ≡ j → ⊥) → (x < i) × (getD hs x nobody ≡ getD (old .heads) x nobody))
       → Mark b p a t j h left q → Marked b p a t i' c' r'
   marked-by i i' j c c' r r' hs h left q old size few lj is hr hh same mk =
@@ -89,21 +91,21 @@ module _ (b p : List ℕ) (a : Alternative) (t : Token) where
         few = few;
         four = old .four;
         is = is;
-        long = rw hr (put-long r (j + 1) left q ∙ old .long);
+        long = rw hr (put-long r (j + 1) left q 0 ∙ old .long);
         each = λ x l. each x l (eqb x j) refl;
       }
     where
-      room : timePlace 1 (j + 1) < length r
+      room : jobPlace (j + 1) < length r
       room = omega (arith, old .long, old .four)
 
       first : tokenTime r' 0 (j + 1) ≡ left
-      first = rw hr (put-first r (j + 1) left q room)
+      first = rw hr (put-first r (j + 1) left q 0 room)
 
       second : tokenTime r' 1 (j + 1) ≡ q
-      second = rw hr (put-second r (j + 1) left q room)
+      second = rw hr (put-second r (j + 1) left q 0 room)
 
       other : (kind x : ℕ) → kind < 2 → (x ≡ j → ⊥) → tokenTime r' kind (x + 1) ≡ tokenTime r kind (x + 1)
-      other kind x k f = rw hr (put-else r (j + 1) left q kind (x + 1) k (λ z. f (omega arith)))
+      other kind x k f = rw hr (put-else r (j + 1) left q 0 kind (x + 1) k (λ z. f (omega arith)))
 
       each : (x : ℕ) → x < i' → (z : Bool) → eqb x j ≡ z → Mark b p a t x (getD hs x nobody) (tokenTime r' 0 (x + 1)) (tokenTime r' 1 (x + 1))
       each x l true z = rw (eqb-true x j z) (mark-same j _ _ _ _ _ _ hh first second mk)
@@ -124,7 +126,7 @@ module _ (b p : List ℕ) (a : Alternative) (t : Token) where
 
     -- else the one found is the mark
     abbrev found : Token
-    found = token (word p (g .seen .place)) (g .seen .start) (g .seen .end)
+    found = token (word p (g .seen .place)) (g .seen .start) (g .seen .end) 0
 
     found-mark : f ≡ true → Mark b p a t j found (g .seen .left) (g .seen .place)
     found-mark h =
@@ -143,7 +145,7 @@ module _ (b p : List ℕ) (a : Alternative) (t : Token) where
   -- ---- the first marks
 
   -- the whole line of name j
-  pub line-source : (j : ℕ) (w : Tokens) → j < a .names → w ≡ tokensOf b p (a .name + 2 * j) → w .place + 2 * w .count < 2 ^ 60 → w .count < 4294967296
+  pub line-source : (j : ℕ) (w : Tokens) → j < a .names → w ≡ tokensOf b p (a .name + 2 * j) → w .place + 3 * w .count < 2 ^ 60 → w .count < 4294967296
       → Source b p a t j (w .count) (w .place) (w .start)
   unfolding lineOf nameAt
   line-source j w l h room small =
@@ -170,7 +172,7 @@ module _ (b p : List ℕ) (a : Alternative) (t : Token) where
   unfolding nameAt
   line-value j w h = let two : a .name + 2 * j + 1 ≡ a .name + j * 2 + 1 = omega arith in rw h (ap (word b) two)
 
-  module _ (j : ℕ) (c r c' r' : Choice) (w : Tokens) (f : Bool) (lj : j < a .names) (hw : w ≡ tokensOf b p (a .name + 2 * j)) (room : w .place + 2 * w .count < 2 ^ 60)
+  module _ (j : ℕ) (c r c' r' : Choice) (w : Tokens) (f : Bool) (lj : j < a .names) (hw : w ≡ tokensOf b p (a .name + 2 * j)) (room : w .place + 3 * w .count < 2 ^ 60)
       (small : w .count < 4294967296) (g : Advanced p (j + 1) w c r c' r' f) where
     pub start-none : f ≡ false → Never b p a t
     start-none h = sought-never j (j + 1) w c r c' r' f lj (line-source j w lj hw room small) (line-value j w hw) g h
@@ -183,7 +185,7 @@ module _ (b p : List ℕ) (a : Alternative) (t : Token) where
         marked-by j (j + 1) j c c' r r' (old .heads ++ (x ∷ [])) x (g .seen .left) (g .seen .place) old (simp length-append (omega (arith, old .size))) (omega arith) (omega arith)
         (g .times h ∙ times x) (g .marks h) (at-last x) (same x) (found-mark j (j + 1) w c r c' r' f lj s v g h)
       where
-        times : (x : Token) → put c (j + 1) (x .start .tick) (x .end .tick) ≡ choiceOf last t (old .heads ++ (x ∷ []))
+        times : (x : Token) → put c (j + 1) (x .start .tick) (x .end .tick) (x .job) ≡ choiceOf last t (old .heads ++ (x ∷ []))
         times x = rw (old .is) (rw (← old .size) (sym (choice-more last t (old .heads) x (omega (arith, old .size, old .four)))))
 
         at-last : (x : Token) → getD (old .heads ++ (x ∷ [])) j nobody ≡ x
@@ -235,7 +237,7 @@ module _ (b p : List ℕ) (a : Alternative) (t : Token) where
     -- it is name j
     module _ (j x : ℕ) (o : Early) (hx : x ≡ j + 1) (ho : o ≡ Name x) (q : Told c (a .names) o (asksHold b a)) (words : (i : ℕ) → word p i < 4294967296) where
       abbrev next : Tokens
-      next = nextOf b a x c r
+      next = nextOf b p a x c r
 
       below : j < a .names
       below = omega (arith, q .behind x ho .few)
@@ -251,8 +253,8 @@ module _ (b p : List ℕ) (a : Alternative) (t : Token) where
       pub mark-some : tokenTime r 0 x ≡ 0 → ⊥
       mark-some = mark .some
 
-      pub mark-room : next .place + 2 * next .count < 2 ^ 60
-      mark-room = omega (arith, mark .source .room, mark .some)
+      pub mark-room : next .place + 3 * next .count < 2 ^ 60
+      mark-room = omega (arith, mark .source .room, mark .some, width-few p .1)
 
       pub mark-small : next .start + 4294967296 * next .count < 2 ^ 64
       mark-small = omega (arith, mark .source .small, mark .some, ends, words (tokenTime r 1 x + 1))
@@ -290,15 +292,15 @@ module _ (b p : List ℕ) (a : Alternative) (t : Token) where
         raise-next h =
             let y = found j x next c r c' r' f below next-source value g in
             marked-by (a .names) (a .names) j c c' r r' (set (k .heads) j y) y (g .seen .left) (g .seen .place) k (simp length-set (k .size)) (omega arith) below
-            (g .times h ∙ times y) (g .marks h ∙ ap (λ (z : ℕ). put r z (g .seen .left) (g .seen .place)) hx)
+            (g .times h ∙ times y) (g .marks h ∙ ap (λ (z : ℕ). put r z (g .seen .left) (g .seen .place) 0) hx)
             (getD-set-same (k .heads) j y nobody (omega (arith, k .size, below)))
             (λ i l ne. (l, getD-set-other (k .heads) j i y nobody ne))
             (found-mark j x next c r c' r' f below next-source value g h)
           where
-            times : (y : Token) → put c x (y .start .tick) (y .end .tick) ≡ choiceOf last t (set (k .heads) j y)
+            times : (y : Token) → put c x (y .start .tick) (y .end .tick) (y .job) ≡ choiceOf last t (set (k .heads) j y)
             times y = rw (k .is, hx) (sym (choice-set last t (k .heads) j y (omega (arith, k .size, below)) (omega (arith, k .size, k .four))))
 
         pub raise-less : f ≡ true → total r' < total r
         raise-less h =
             rw (g .marks h)
-            (total-falls r x (g .seen .left) (g .seen .place) (k .long) (omega arith) (omega (arith, below, k .four)) (omega (arith, g .sought .skipped .fewer, mark-some)))
+            (total-falls r x (g .seen .left) (g .seen .place) 0 (k .long) (omega arith) (omega (arith, below, k .four)) (omega (arith, g .sought .skipped .fewer, mark-some)))

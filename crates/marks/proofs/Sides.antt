@@ -13,7 +13,7 @@ use Rattle.clock.specs.Clock.{at, noLimit, inBounds}
 use Rattle.layout.specs.Layout.{fifthWidth}
 use Rattle.book.specs.Rules.{atomAt}
 use Rattle.choice.specs.declared.Alternative.{Alternative}
-use Rattle.choice.specs.Met.{Choice, tokenTime, timeOf, atomHolds}
+use Rattle.choice.specs.Met.{Choice, tokenTime, timeOf, boundsHold, atomHolds}
 use Rattle.choice.specs.Asked.{askHolds, allHold, asksHold}
 use Rattle.choice.proofs.Laws.{all-step}
 use Rattle.marks.specs.declared.Early.{Early}
@@ -82,15 +82,20 @@ whose-few kind x n = go (ltb kind 2) (leb x n) refl
     go true false q = omega arith
     go false t q = omega arith
 
+-- what two times are asked
+within-times : (i x j y lower upper : ℕ) (d : Choice) → i ≤ 3 → within i x j y lower upper d ≡ inBounds noLimit (timeOf d i x) (timeOf d j y) lower upper
+unfolding within atomHolds boundsHold
+within-times i x j y lower upper d l = rw (ne-eqb i 4 (λ q. omega arith))
+
 module _ (c : Choice) (n i x j y lower upper : ℕ) (li : i ≤ 3) (lj : j ≤ 3) (left right : Time) (f : Bool) (hl : left ≡ at (timeOf c i x))
     (hr : right ≡ at (timeOf c j y)) (hf : f ≡ inBounds noLimit (left .tick) (right .tick) lower noLimit) where
   -- right minus left is below lower: the right side is too early
   pub told-right : (r : ℕ) → f ≡ false → r ≡ whose j y n → Told c n (Name r) (within i x j y lower upper)
-  unfolding within inBounds
+  unfolding inBounds
   told-right r nay q =
       rw q
       (told-name c n (within i x j y lower upper) (whose j y n)
-      (record { few = whose-few j y n; ahead = λ d g w. ahead-whose n c d g j y lj (later d g (leb-true _ _ (both-true _ _ w .0))) }))
+      (record { few = whose-few j y n; ahead = λ d g w. ahead-whose n c d g j y lj (later d g (leb-true _ _ (both-true _ _ (sym (within-times i x j y lower upper d li) ∙ w) .0))) }))
     where
       low : right .tick < left .tick + lower
       low = leb-false (left .tick + lower) (right .tick) (first (leb (left .tick + lower) (right .tick)) _ (sym hf ∙ nay) refl)
@@ -105,11 +110,11 @@ module _ (c : Choice) (n i x j y lower upper : ℕ) (li : i ≤ 3) (lj : j ≤ 3
   -- it is above upper: the left side is
   pub told-left : (r : ℕ) (s : Bool) → s ≡ inBounds noLimit (left .tick) (right .tick) lower upper → s ≡ false → f ≡ true → r ≡ whose i x n
       → Told c n (Name r) (within i x j y lower upper)
-  unfolding within inBounds
+  unfolding inBounds
   told-left r s hs nay yea q =
       rw q
       (told-name c n (within i x j y lower upper) (whose i x n)
-      (record { few = whose-few i x n; ahead = λ d g w. ahead-whose n c d g i x li (later d g (leb-true _ _ (other (eqb upper noLimit) _ (none .0) (both-true (leb (timeOf d i x + lower) (timeOf d j y)) _ w .1)))) }))
+      (record { few = whose-few i x n; ahead = λ d g w. ahead-whose n c d g i x li (later d g (leb-true _ _ (other (eqb upper noLimit) _ (none .0) (both-true (leb (timeOf d i x + lower) (timeOf d j y)) _ (sym (within-times i x j y lower upper d li) ∙ w) .1)))) }))
     where
       none : (eqb upper noLimit ≡ false) × (leb (right .tick) (left .tick + upper) ≡ false)
       none = none-true _ _ (one-false (leb (left .tick + lower) (right .tick)) _ (sym hs ∙ nay) (both-true (leb (left .tick + lower) (right .tick)) _ (sym hf ∙ yea) .0))
@@ -132,7 +137,7 @@ told-same c n r f g h t =
 -- an atom's six words, as they were read
 pub told-atom : (e : ℕ) (b : List ℕ) (c : Choice) (n k i x j y lower upper : ℕ) (r : Early) → (e ≡ 2 → ⊥) → i ≡ word b k → x ≡ word b (k + 1) → j ≡ word b (k + 2)
     → y ≡ word b (k + 3) → lower ≡ word b (k + 4) → upper ≡ word b (k + 5) → Told c n r (within i x j y lower upper) → Told c n r (askAt e b k)
-unfolding within askAt askHolds atomHolds atomAt
+unfolding within askAt askHolds atomAt
 told-atom e b c n k i x j y lower upper r ne h0 h1 h2 h3 h4 h5 t = told-same c n r (within i x j y lower upper) (askAt e b k) (λ d w. is d ∙ w) t
   where
     is : (d : Choice) → within i x j y lower upper d ≡ askAt e b k d

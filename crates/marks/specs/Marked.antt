@@ -9,14 +9,13 @@ use lib.Dec.{leb, ltb}
 use lib.ListN.{length, getD}
 use Rattle.words.specs.Words.{word, inSet}
 use Rattle.words.specs.Runs.{run}
-use Rattle.clock.specs.Clock.{noLimit, inBounds}
 use Rattle.book.specs.Rules.{nameAt}
 use Rattle.lines.specs.declared.Token.{Token}
-use Rattle.lines.specs.Lines.{token, tokensFrom, lineOf}
+use Rattle.lines.specs.Lines.{token, tokenWidth, tokensFrom, lineOf}
 use Rattle.lines.specs.Ends.{planEnd}
 use Rattle.choice.specs.declared.Alternative.{Alternative}
 use Rattle.choice.specs.declared.Tokens.{Tokens}
-use Rattle.choice.specs.Met.{Choice, choiceSize, nobody, put, tokenTime, endTime, timeOf}
+use Rattle.choice.specs.Met.{Choice, choiceSize, nobody, put, tokenTime, endTime, atomHolds}
 use Rattle.choice.specs.Exists.{Among, Placed, choiceOf}
 use Rattle.choice.specs.Asked.{askHolds, asksHold, triggeredIn}
 use Rattle.marks.specs.declared.Seen.{Seen}
@@ -32,7 +31,7 @@ pub record Skipped (p : List ℕ) (w : Tokens) (left at from : ℕ) : Type 0 whe
   pub lost : (x : Token) → Among x (tokensFrom p (w .count) (w .place) (w .start)) → x .value ≡ w .value → Among x (tokensFrom p left at from)
   pub back : (x : Token) → Among x (tokensFrom p left at from) → Among x (tokensFrom p (w .count) (w .place) (w .start))
   pub fewer : left ≤ w .count
-  pub room : at + 2 * left ≤ w .place + 2 * w .count
+  pub room : at + 3 * left ≤ w .place + 3 * w .count
   pub small : from + 4294967296 * left ≤ w .start + 4294967296 * w .count
 
 -- up to one of that value, from its start to its end, or to the end of the line
@@ -40,22 +39,25 @@ pub record Sought (p : List ℕ) (w : Tokens) (s : Seen) : Type 0 where
   pub skipped : Skipped p w (s .left) (s .place) (s .start)
   pub here : (s .left ≡ 0 → ⊥) → s .end ≡ s .start + word p (s .place + 1)
 
--- the token sought is put as name number k to the choice c, and its tokens left and its place to r, unless there is none
+-- the token sought is put as name number k to the choice c, but for its job, and its tokens left and its place to r, unless there is none
 pub record Advanced (p : List ℕ) (k : ℕ) (w : Tokens) (c r c' r' : Choice) (found : Bool) : Type 0 where
   pub seen : Seen
   pub sought : Sought p w seen
   pub none : found ≡ false → seen .left ≡ 0
   pub some : found ≡ true → (seen .left ≡ 0 → ⊥)
-  pub times : found ≡ true → c' ≡ put c k (seen .start) (seen .end)
-  pub marks : found ≡ true → r' ≡ put r k (seen .left) (seen .place)
+  pub times : found ≡ true → c' ≡ put c k (seen .start) (seen .end) 0
+  pub marks : found ≡ true → r' ≡ put r k (seen .left) (seen .place) 0
 
 -- the tokens behind the mark of name number k, for its value
-abbrev pub nextOf : List ℕ → Alternative → ℕ → Choice → Choice → Tokens
-nextOf b a k c r =
+abbrev pub nextOf : List ℕ → List ℕ → Alternative → ℕ → Choice → Choice → Tokens
+nextOf b p a k c r =
     record {
       value = word b (a .name + 2 * (k - 1) + 1);
+      tied = false;
+      job = 0;
+      width = tokenWidth p;
       count = tokenTime r 0 k - 1;
-      place = tokenTime r 1 k + 2;
+      place = tokenTime r 1 k + tokenWidth p;
       start = tokenTime c 1 k;
     }
 
@@ -88,7 +90,7 @@ whose kind x n = cond (ltb kind 2 && leb x n) x 0
 
 -- what two terms, of kinds i and j, are asked
 unfoldable pub within : ℕ → ℕ → ℕ → ℕ → ℕ → ℕ → Choice → Bool
-within i x j y lower upper d = inBounds noLimit (timeOf d i x) (timeOf d j y) lower upper
+within i x j y lower upper d = atomHolds d (record { leftKind = i; left = x; rightKind = j; right = y; lower = lower; upper = upper })
 
 -- what stands at a place of table 5 holds, as a test of the choice
 unfoldable pub askAt : ℕ → List ℕ → ℕ → Choice → Bool
@@ -155,13 +157,13 @@ Choosing b p a u ts = Placed (lineOf p) (asksHold b a) (run (nameAt b) 2 (a .nam
 pub record Source (b p : List ℕ) (a : Alternative) (t : Token) (j count place start : ℕ) : Type 0 where
   pub from : (u : Token) → Later t u → (ts : List Token) → Choosing b p a u ts → Among (getD ts j nobody) (tokensFrom p count place start)
   pub line : (x : Token) → Among x (tokensFrom p count place start) → Among x (lineOf p (nameAt b (a .name + j * 2) .variable))
-  pub room : place + 2 * count < 2 ^ 60
+  pub room : place + 3 * count < 2 ^ 60
   pub small : start + 4294967296 * count < 2 ^ 64
 
--- the token h, with `left` tokens left from it on, the words of which stand from a place on, is the mark of name j
+-- the token h, with `left` tokens left from it on, the words of which stand from a place on, is the mark of name j; its job is left out
 pub record Mark (b p : List ℕ) (a : Alternative) (t : Token) (j : ℕ) (h : Token) (left place : ℕ) : Type 0 where
   pub some : left ≡ 0 → ⊥
-  pub head : h ≡ token (word p place) (h .start .tick) (h .start .tick + word p (place + 1))
+  pub head : h ≡ token (word p place) (h .start .tick) (h .start .tick + word p (place + 1)) 0
   pub source : Source b p a t j left place (h .start .tick)
 
 -- c is the choice of the trigger token t and of the marks of the first i names, and r has the tokens left at each mark and its place

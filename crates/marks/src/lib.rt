@@ -5,6 +5,7 @@ ghost use mathlib.Core.Bool.{true, false, _||_, not};
 ghost use Prim.Native.Nat.{_+_, _*_, _<_, _≤_, _^_};
 ghost use lib.ListN.{length};
 ghost use Rattle.words.specs.Words.{inSet};
+ghost use Rattle.lines.specs.Lines.{tokenWidth};
 ghost use Rattle.choice.specs.Met.{choiceSize, tokenTime};
 ghost use Rattle.choice.specs.Asked.{askHolds, asksHold, triggeredIn};
 ghost use Rattle.marks.specs.Marked.{Sought, Advanced, nextOf, Told, whose, within, askAt, needsRight, needsLeft, allNeed, Marked, Started, Raised};
@@ -26,7 +27,7 @@ pub struct Seen {
 
 // The first of some tokens that has the value that is asked for; none is left where none has it.
 fn seek(p: &[u32], w: Tokens) -> Seen
-    requires { ⌜ (w .place + 2 * w .count < 2 ^ 60) × (w .start + 4294967296 * w .count < 2 ^ 64) ⌝ }
+    requires { ⌜ (w .place + 3 * w .count < 2 ^ 60) × (w .start + 4294967296 * w .count < 2 ^ 64) × (w .width ≡ tokenWidth (now p)) ⌝ }
     ensures { λ r. ⌜ Sought (now (p .entry)) w r ⌝ }
 {
     let mut left = w.count;
@@ -43,7 +44,7 @@ fn seek(p: &[u32], w: Tokens) -> Seen
             };
         }
         from = end;
-        at += 2;
+        at += w.width;
         left -= 1;
     }
     Seen {
@@ -55,17 +56,17 @@ fn seek(p: &[u32], w: Tokens) -> Seen
 }
 
 // Marks for name number k the first of some tokens that has its value, if there is one: c has the times of the marked tokens, and r the
-// tokens left there and the place.
-fn advance(p: &[u32], c: &mut [u64; 11], r: &mut [u64; 11], k: usize, w: Tokens) -> bool
-    requires { ⌜ (k < 2 ^ 60) × (w .place + 2 * w .count < 2 ^ 60) × (w .start + 4294967296 * w .count < 2 ^ 64) ⌝ }
+// tokens left there and the place. No mark is moved for a job, so none is put.
+fn advance(p: &[u32], c: &mut [u64; 16], r: &mut [u64; 16], k: usize, w: Tokens) -> bool
+    requires { ⌜ (k < 2 ^ 60) × (w .place + 3 * w .count < 2 ^ 60) × (w .start + 4294967296 * w .count < 2 ^ 64) × (w .width ≡ tokenWidth (now p)) ⌝ }
     ensures { λ f. ⌜ Advanced (now (p .entry)) k w (now (c .entry)) (now (r .entry)) (now (c .exit)) (now (r .exit)) f ⌝ }
 {
     let s = seek(p, w);
     if s.left == 0 {
         return false;
     }
-    put(c, k, s.start, s.end);
-    put(r, k, s.left, s.place as u64);
+    put(c, k, s.start, s.end, 0);
+    put(r, k, s.left, s.place as u64, 0);
     true
 }
 
@@ -75,8 +76,8 @@ pub fn start_marks(
     p: &[u32],
     t: Token,
     a: Alternative,
-    c: &mut [u64; 11],
-    r: &mut [u64; 11],
+    c: &mut [u64; 16],
+    r: &mut [u64; 16],
 ) -> bool
     requires { ⌜ (a .names ≤ 4) × (a .name < 2 ^ 40) × (now c ≡ triggeredIn (now p) t) × (length (now r) ≡ choiceSize) ⌝ }
     ensures { λ f. ⌜ Started (now (b .entry)) (now (p .entry)) a t f (now (c .exit)) (now (r .exit)) ⌝ }
@@ -98,15 +99,16 @@ fn move_mark(
     p: &[u32],
     a: Alternative,
     k: u32,
-    c: &mut [u64; 11],
-    r: &mut [u64; 11],
+    c: &mut [u64; 16],
+    r: &mut [u64; 16],
 ) -> bool
-    requires { ⌜ (1 ≤ k) × (a .name < 2 ^ 40) × (tokenTime (now r) 0 k ≡ 0 → ⊥) × (nextOf (now b) a k (now c) (now r) .place + 2 * nextOf (now b) a k (now c) (now r) .count < 2 ^ 60) × (nextOf (now b) a k (now c) (now r) .start + 4294967296 * nextOf (now b) a k (now c) (now r) .count < 2 ^ 64) ⌝ }
-    ensures { λ f. ⌜ Advanced (now (p .entry)) k (nextOf (now (b .entry)) a k (now (c .entry)) (now (r .entry))) (now (c .entry)) (now (r .entry)) (now (c .exit)) (now (r .exit)) f ⌝ }
+    requires { ⌜ (1 ≤ k) × (a .name < 2 ^ 40) × (tokenTime (now r) 0 k ≡ 0 → ⊥) × (nextOf (now b) (now p) a k (now c) (now r) .place + 3 * nextOf (now b) (now p) a k (now c) (now r) .count < 2 ^ 60) × (nextOf (now b) (now p) a k (now c) (now r) .start + 4294967296 * nextOf (now b) (now p) a k (now c) (now r) .count < 2 ^ 64) ⌝ }
+    ensures { λ f. ⌜ Advanced (now (p .entry)) k (nextOf (now (b .entry)) (now (p .entry)) a k (now (c .entry)) (now (r .entry))) (now (c .entry)) (now (r .entry)) (now (c .exit)) (now (r .exit)) f ⌝ }
 {
     let value = word_at(b, a.name + 2 * (k as usize - 1) + 1);
     let count = token_time(r, 0, k) - 1;
-    let place = token_time(r, 1, k) as usize + 2;
+    let width = lines::token_width(p);
+    let place = token_time(r, 1, k) as usize + width;
     let start = token_time(c, 1, k);
     advance(
         p,
@@ -115,6 +117,9 @@ fn move_mark(
         k as usize,
         Tokens {
             value,
+            tied: false,
+            job: 0,
+            width,
             count,
             place,
             start,
@@ -137,7 +142,7 @@ fn whose(kind: u32, x: u32, n: usize) -> u32
 
 // What two terms at the marks tell, which have to be within bounds: below lower the right one is too early, above upper the left one.
 fn bounds_early(
-    c: &[u64; 11],
+    c: &[u64; 16],
     n: usize,
     i: u32,
     x: u32,
@@ -224,7 +229,7 @@ fn left_needed(set: u32, s: u64, e: u64, s2: u64, e2: u64) -> bool
 }
 
 // What the constraint at a place tells: all relations of its set together.
-fn set_early(b: &[u32], c: &[u64; 11], n: usize, place: usize) -> Early
+fn set_early(b: &[u32], c: &[u64; 16], n: usize, place: usize) -> Early
     requires { ⌜ place < 2 ^ 60 ⌝ }
     ensures { λ r. ⌜ Told (now (c .entry)) n r (askAt 2 (now (b .entry)) place) ⌝ }
 {
@@ -248,7 +253,7 @@ fn set_early(b: &[u32], c: &[u64; 11], n: usize, place: usize) -> Early
 }
 
 // What the ask at a place tells.
-fn ask_early(e: usize, b: &[u32], c: &[u64; 11], n: usize, place: usize) -> Early
+fn ask_early(e: usize, b: &[u32], c: &[u64; 16], n: usize, place: usize) -> Early
     requires { ⌜ place < 2 ^ 60 ⌝ }
     ensures { λ r. ⌜ Told (now (c .entry)) n r (askAt e (now (b .entry)) place) ⌝ }
 {
@@ -265,7 +270,7 @@ fn ask_early(e: usize, b: &[u32], c: &[u64; 11], n: usize, place: usize) -> Earl
 }
 
 // What the first ask of an alternative that tells a name tells.
-fn asks_early(b: &[u32], a: Alternative, c: &[u64; 11]) -> Early
+fn asks_early(b: &[u32], a: Alternative, c: &[u64; 16]) -> Early
     requires { ⌜ a .ask + 8 * a .asks < 2 ^ 60 ⌝ }
     ensures { λ r. ⌜ Told (now (c .entry)) (a .names) r (asksHold (now (b .entry)) a) ⌝ }
 {
@@ -297,8 +302,8 @@ pub fn raise(
     p: &[u32],
     t: Token,
     a: Alternative,
-    c: &mut [u64; 11],
-    r: &mut [u64; 11],
+    c: &mut [u64; 16],
+    r: &mut [u64; 16],
 ) -> Found
     requires { ⌜ (a .ask + 8 * a .asks < 2 ^ 60) × (a .name < 2 ^ 40) × Marked (now b) (now p) a t (a .names) (now c) (now r) ⌝ }
     ensures { λ f. ⌜ Raised (now (b .entry)) (now (p .entry)) a t (now (c .exit)) (now (r .exit)) f ⌝ }

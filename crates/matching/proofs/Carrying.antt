@@ -5,7 +5,7 @@ use mathlib.Core.Bool.{Bool, true, false, _&&_, _||_, false≢true}
 use mathlib.Core.Logic.{_⊎_, inl, inr, ⊎-elim}
 use mathlib.Core.List.{List, [], _∷_}
 use Prim.Native.Nat.{ℕ, zero, suc, _+_, _-_, _*_, _≤_, _<_}
-use native.Mathlib.Nat.{add-zero, zero-mul}
+use native.Mathlib.Nat.{add-zero, zero-mul, mul-one}
 use native.Mathlib.Numerals.{add-one}
 use native.Mathlib.Omega.{arith}
 use lib.Dec.{ltb, eqb}
@@ -13,7 +13,7 @@ use lib.ListN.{length, getD, set, length-set, List·getD-eq-default}
 use lib.Seq.{getD-set-same, getD-set-other, ext-getD}
 use borrow.Author.Tests.{ltb-true, ltb-false, eqb-true, eqb-false}
 use Rattle.words.specs.Lists.{any}
-use Rattle.words.specs.Runs.{run}
+use Rattle.words.specs.Runs.{run, run-at, length-run}
 use Rattle.book.specs.Rules.{nameAt, alternativeAt}
 use Rattle.lines.specs.declared.Token.{Token}
 use Rattle.lines.specs.Lines.{lineOf}
@@ -59,35 +59,45 @@ storing-next l l' l'' k c i x s h hx =
 pub storing-all : (l l' : List ℕ) (k : ℕ) (c : List ℕ) (i : ℕ) → i ≤ rowSize → rowSize ≤ i → Storing l l' k c i → Storing l l' k c rowSize
 storing-all l l' k c i h g s = let q : i ≡ rowSize = omega arith in rw q at s
 
+-- the words of a row
+row-at : (l : List ℕ) (k j : ℕ) → j < rowSize → getD (row l k) j 0 ≡ getD l (k + j) 0
+unfolding row
+row-at l k j h = run-at (λ i. getD l i 0) 1 rowSize k j 0 h ∙ ap (λ (i : ℕ). getD l (k + i) 0) (mul-one j)
+
+row-long : (l : List ℕ) (k : ℕ) → length (row l k) ≡ rowSize
+unfolding row
+row-long l k = length-run (λ i. getD l i 0) 1 rowSize k
+
+-- a choice that has them
+pub row-is : (l c : List ℕ) (k : ℕ) → length c ≡ rowSize → ((j : ℕ) → j < rowSize → getD l (k + j) 0 ≡ getD c j 0) → row l k ≡ c
+row-is l c k h f = ext-getD 0 (row l k) c (row-long l k ∙ sym h) (λ j m. let b : j < rowSize = rw (row-long l k) at m in row-at l k j b ∙ f j b)
+
 -- rows that agree word by word
-row-same : (l l' : List ℕ) (k : ℕ) → ((j : ℕ) → j < rowSize → getD l' (k + j) 0 ≡ getD l (k + j) 0) → getD l' k 0 ≡ getD l k 0 → row l' k ≡ row l k
-row-same l l' k f h =
-    rw (h, f 1 (omega arith), f 2 (omega arith), f 3 (omega arith), f 4 (omega arith), f 5 (omega arith), f 6 (omega arith), f 7 (omega arith), f 8 (omega arith), f 9 (omega arith), f 10 (omega arith))
+row-same : (l l' : List ℕ) (k : ℕ) → ((j : ℕ) → j < rowSize → getD l' (k + j) 0 ≡ getD l (k + j) 0) → row l' k ≡ row l k
+row-same l l' k f = row-is l' (row l k) k (row-long l k) (λ j h. f j h ∙ sym (row-at l k j h))
 
-row-is : (l c : List ℕ) (k : ℕ) → length c ≡ rowSize → ((j : ℕ) → j < rowSize → getD l (k + j) 0 ≡ getD c j 0) → row l k ≡ c
-row-is l c k h f =
-    rw (zeroth, f 1 (omega arith), f 2 (omega arith), f 3 (omega arith), f 4 (omega arith), f 5 (omega arith), f 6 (omega arith), f 7 (omega arith), f 8 (omega arith), f 9 (omega arith), f 10 (omega arith))
-    (sym (whole-row c h))
+-- a row that is loaded: its first i words are there
+pub record Loading (m : List ℕ) (k : ℕ) (c : List ℕ) (i : ℕ) : Type 0 where
+  pub long : length c ≡ rowSize
+  pub here : (j : ℕ) → j < i → getD m (k + j) 0 ≡ getD c j 0
+
+pub loading-none : (m : List ℕ) (k : ℕ) (c : List ℕ) → length c ≡ rowSize → Loading m k c 0
+loading-none m k c h = record { long = h; here = λ j l. absurd (omega arith) }
+
+pub loading-next : (m : List ℕ) (k : ℕ) (c c' : List ℕ) (i x : ℕ) → i < rowSize → Loading m k c i → c' ≡ set c i x → x ≡ getD m (k + i) 0 → Loading m k c' (i + 1)
+loading-next m k c c' i x l s h hx = rw h (record { long = length-set c i x ∙ s .long; here = λ j f. at-place j f (eqb j i) refl })
   where
-    zeroth : getD l k 0 ≡ getD c 0 0
-    zeroth = rw add-zero at (f 0 (omega arith))
-
-    whole-row : (c : List ℕ) → length c ≡ rowSize → c ≡ row c 0
-    whole-row c h = ext-getD 0 c (row c 0) h at-each
+    at-place : (j : ℕ) → j < i + 1 → (a : Bool) → eqb j i ≡ a → getD m (k + j) 0 ≡ getD (set c i x) j 0
+    at-place j f true q = rw (eqb-true j i q) (sym (getD-set-same c i x 0 (omega (arith, s .long)) ∙ hx))
+    at-place j f false q =
+        let ne = eqb-false j i q in
+        s .here j (strict j i f ne) ∙ sym (getD-set-other c i j x 0 ne)
       where
-        at-each : (i : ℕ) → i < length c → getD c i 0 ≡ getD (row c 0) i 0
-        at-each zero l = refl
-        at-each (suc zero) l = refl
-        at-each (suc (suc zero)) l = refl
-        at-each (suc (suc (suc zero))) l = refl
-        at-each (suc (suc (suc (suc zero)))) l = refl
-        at-each (suc (suc (suc (suc (suc zero))))) l = refl
-        at-each (suc (suc (suc (suc (suc (suc zero)))))) l = refl
-        at-each (suc (suc (suc (suc (suc (suc (suc zero))))))) l = refl
-        at-each (suc (suc (suc (suc (suc (suc (suc (suc zero)))))))) l = refl
-        at-each (suc (suc (suc (suc (suc (suc (suc (suc (suc zero))))))))) l = refl
-        at-each (suc (suc (suc (suc (suc (suc (suc (suc (suc (suc zero)))))))))) l = refl
-        at-each (suc (suc (suc (suc (suc (suc (suc (suc (suc (suc (suc i))))))))))) l = absurd (omega arith)
+        strict : (i j : ℕ) → i < j + 1 → (i ≡ j → ⊥) → i < j
+        strict i j l ne = omega arith
+
+pub loaded : (m : List ℕ) (k : ℕ) (c : List ℕ) (i : ℕ) → rowSize ≤ i → Loading m k c i → c ≡ row m k
+loaded m k c i h s = sym (row-is m c k (s .long) (λ j l. s .here j (omega arith)))
 
 pub slot-none : (l : List ℕ) (slot : ℕ) → Slot l l slot
 slot-none l slot = record { long = refl; low = λ x h. refl; high = λ x h. refl }
@@ -136,7 +146,7 @@ module _ (b p : List ℕ) (a : Alternative) where
   carry-fresh t l slot h = record { going = λ q. absurd (omega arith); dead = λ q. absurd (omega arith) }
 
   -- marks of an earlier trigger token, with a later one's times
-  pub going-on : (t : Token) (c r c1 c' r' : Choice) → Going b p a t c r → c1 ≡ c → c' ≡ put c1 0 (t .start .tick) (t .end .tick) → r' ≡ r
+  pub going-on : (t : Token) (c r c1 c' r' : Choice) → Going b p a t c r → c1 ≡ c → c' ≡ put c1 0 (t .start .tick) (t .end .tick) (t .job) → r' ≡ r
       → Marked b p a t (a .names) c' r'
   going-on t c r c1 c' r' g h1 h hr =
       let k = g .marked in
@@ -147,7 +157,7 @@ module _ (b p : List ℕ) (a : Alternative) where
         few = k .few;
         four = k .four;
         is =
-            h ∙ ap (λ (z : Choice). put z 0 (t .start .tick) (t .end .tick)) (h1 ∙ k .is)
+            h ∙ ap (λ (z : Choice). put z 0 (t .start .tick) (t .end .tick) (t .job)) (h1 ∙ k .is)
             ∙ choice-trigger (planEnd (lineOf p)) (g .old) t (k .heads) (omega (arith, k .size, k .four));
         long = k .long;
         each =
@@ -178,7 +188,7 @@ module _ (b p : List ℕ) (a : Alternative) where
       same x f g = ⊎-elim (λ z. s .low x (omega arith)) (λ z. s .high x (omega arith)) apart
 
       rows : (k : ℕ) → slot ≤ k → k + rowSize ≤ slot + slotSize → row l' k ≡ row l k
-      rows k f g = row-same l l' k (λ j h. same (k + j) (omega arith) (omega arith)) (same k (omega arith) (omega arith))
+      rows k f g = row-same l l' k (λ j h. same (k + j) (omega arith) (omega arith))
 
   -- marks are kept
   pub kept-carry : (t : Token) (l l' : List ℕ) (slot : ℕ) (c r : Choice) → (slot < length l → slot + slotSize ≤ length l) → Keeping l l' slot c r

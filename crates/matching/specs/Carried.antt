@@ -4,6 +4,7 @@ use mathlib.Core.Bool.{Bool, true, false}
 use mathlib.Core.List.{List, [], _∷_}
 use Prim.Native.Nat.{ℕ, _+_, _*_, _≤_, _<_}
 use lib.ListN.{length, getD, set}
+use Rattle.words.specs.Runs.{run}
 use Rattle.lines.specs.declared.Token.{Token}
 use Rattle.choice.specs.declared.Alternative.{Alternative}
 use Rattle.choice.specs.Met.{Choice, choiceSize}
@@ -22,20 +23,8 @@ abbrev pub slotSize : ℕ
 slotSize = 1 + 2 * rowSize
 
 -- a choice from a place on
-abbrev pub row : List ℕ → ℕ → List ℕ
-row l k =
-    getD l k 0
-    ∷ getD l (k + 1) 0
-    ∷ getD l (k + 2) 0
-    ∷ getD l (k + 3) 0
-    ∷ getD l (k + 4) 0
-    ∷ getD l (k + 5) 0
-    ∷ getD l (k + 6) 0
-    ∷ getD l (k + 7) 0
-    ∷ getD l (k + 8) 0
-    ∷ getD l (k + 9) 0
-    ∷ getD l (k + 10) 0
-    ∷ []
+unfoldable pub row : List ℕ → ℕ → List ℕ
+row l k = run (λ i. getD l i 0) 1 rowSize k
 
 -- the first i words of c are stored from a place on
 pub record Storing (l l' : List ℕ) (k : ℕ) (c : List ℕ) (i : ℕ) : Type 0 where

@@ -7,9 +7,9 @@ ghost use Rattle.layout.specs.Layout.{offset};
 ghost use Rattle.lines.specs.Lines.{lineOf};
 ghost use Rattle.lines.specs.Ends.{planEnd};
 ghost use Rattle.choice.specs.Met.{put};
-ghost use Rattle.choice.specs.Asked.{placeable, metAt};
+ghost use Rattle.choice.specs.Asked.{placeable, Tied, metAt};
 ghost use Rattle.marks.specs.Marked.{Marked, Source};
-ghost use Rattle.matching.specs.Search.{tokenFor, Leads, Begun, Along};
+ghost use Rattle.matching.specs.Search.{wanted, tokenFor, Leads, Begun, Along, Tying};
 ghost use Rattle.matching.specs.Carried.{rowSize, slotSize, row, Storing, Keeping, Slot, Carry, Settled, Carried};
 use choice::Alternative;
 use choice::Tokens;
@@ -30,8 +30,8 @@ fn tokens_left(
     t: Token,
     a: Alternative,
     j: usize,
-    times: &[u64; 11],
-    rests: &[u64; 11],
+    times: &[u64; 16],
+    rests: &[u64; 16],
 ) -> Tokens
     requires { ⌜ (j < a .names) × (a .names < 2 ^ 32) × (a .name < 2 ^ 40) × Leads (now b) (now p) a t (now times) (now rests) ⌝ }
     ensures { λ r. ⌜ Along (now (b .entry)) (now (p .entry)) a j r × Source (now (b .entry)) (now (p .entry)) a t j (r .count) (r .place) (r .start) ⌝ }
@@ -46,10 +46,44 @@ fn tokens_left(
     let start = token_time(times, 0, k);
     Tokens {
         value: w.value,
+        tied: false,
+        job: 0,
+        width: w.width,
         count,
         place,
         start,
     }
+}
+
+// The same with the job that the name is asked for, c being the choice so far: a token of another job is passed over.
+fn tokens_tied(b: &[u32], a: Alternative, c: &[u64; 16], j: usize, w: Tokens) -> Tokens
+    requires { ⌜ (j + 1 < 2 ^ 32) × (a .ask + 8 * a .asks < 2 ^ 60) ⌝ }
+    ensures { λ r. ⌜ Tying (now (b .entry)) a (now (c .entry)) j w r ⌝ }
+{
+    let k = choice::job_asked(b, a, c, j as u32 + 1);
+    Tokens {
+        value: w.value,
+        tied: k.tied,
+        job: k.job,
+        width: w.width,
+        count: w.count,
+        place: w.place,
+        start: w.start,
+    }
+}
+
+// Whether the token at a place has the value that is asked for, and the job if one is.
+fn wanted(p: &[u32], w: Tokens, place: usize) -> bool
+    requires { ⌜ place < 2 ^ 60 ⌝ }
+    ensures { λ r. ⌜ r ≡ wanted (now (p .entry)) w place ⌝ }
+{
+    if word_at(p, place) != w.value {
+        return false;
+    }
+    if !w.tied {
+        return true;
+    }
+    lines::job_at(p, place) as u64 == w.job
 }
 
 // Whether the n names after the first j can be given tokens, so that all that the alternative asks holds.
@@ -60,9 +94,9 @@ fn place(
     p: &[u32],
     t: Token,
     a: Alternative,
-    c: [u64; 11],
-    times: &[u64; 11],
-    rests: &[u64; 11],
+    c: [u64; 16],
+    times: &[u64; 16],
+    rests: &[u64; 16],
 ) -> bool
     requires { ⌜ (j + n ≡ a .names) × (a .names < 2 ^ 32) × (a .name < 2 ^ 40) × (a .ask + 8 * a .asks < 2 ^ 60) × Begun (now b) (now p) a t j c × Leads (now b) (now p) a t (now times) (now rests) ⌝ }
     ensures { λ r. ⌜ r ≡ placeable (now (b .entry)) (now (p .entry)) a n j c ⌝ }
@@ -73,7 +107,7 @@ fn place(
     if n == 0 {
         return true;
     }
-    let w = tokens_left(b, p, t, a, j, times, rests);
+    let w = tokens_tied(b, a, &c, j, tokens_left(b, p, t, a, j, times, rests));
     try_tokens(n - 1, w, j, b, p, t, a, c, times, rests)
 }
 
@@ -86,92 +120,92 @@ fn try_tokens(
     p: &[u32],
     t: Token,
     a: Alternative,
-    c: [u64; 11],
-    times: &[u64; 11],
-    rests: &[u64; 11],
+    c: [u64; 16],
+    times: &[u64; 16],
+    rests: &[u64; 16],
 ) -> bool
-    requires { ⌜ (j + n + 1 ≡ a .names) × (a .names < 2 ^ 32) × (a .name < 2 ^ 40) × (a .ask + 8 * a .asks < 2 ^ 60) × Along (now b) (now p) a j w × Begun (now b) (now p) a t j c × Leads (now b) (now p) a t (now times) (now rests) ⌝ }
+    requires { ⌜ (j + n + 1 ≡ a .names) × (a .names < 2 ^ 32) × (a .name < 2 ^ 40) × (a .ask + 8 * a .asks < 2 ^ 60) × Along (now b) (now p) a j w × Begun (now b) (now p) a t j c × Tied (now b) a c (j + 1) (w .tied) (w .job) × Leads (now b) (now p) a t (now times) (now rests) ⌝ }
     ensures { λ r. ⌜ r ≡ tokenFor (now (b .entry)) (now (p .entry)) a n j c w ⌝ }
 {
     if w.count == 0 {
         return false;
     }
     let end = w.start + word_at(p, w.place + 1) as u64;
-    if word_at(p, w.place) == w.value {
-        if try_token(n, w.start, end, j, b, p, t, a, c, times, rests) {
+    if wanted(p, w, w.place) {
+        let job = lines::job_at(p, w.place) as u64;
+        if try_token(n, w.start, end, job, j, b, p, t, a, c, times, rests) {
             return true;
         }
     }
     let next = Tokens {
         value: w.value,
+        tied: w.tied,
+        job: w.job,
+        width: w.width,
         count: w.count - 1,
-        place: w.place + 2,
+        place: w.place + w.width,
         start: end,
     };
     try_tokens(n, next, j, b, p, t, a, c, times, rests)
 }
 
-// Whether the token from start to end, given to the name after the first j, lets the n names after it be placed.
+// Whether the token from start to end, of a job, given to the name after the first j, lets the n names after it be placed.
 fn try_token(
     n: usize,
     start: u64,
     end: u64,
+    job: u64,
     j: usize,
     b: &[u32],
     p: &[u32],
     t: Token,
     a: Alternative,
-    c: [u64; 11],
-    times: &[u64; 11],
-    rests: &[u64; 11],
+    c: [u64; 16],
+    times: &[u64; 16],
+    rests: &[u64; 16],
 ) -> bool
-    requires { ⌜ (j + n + 1 ≡ a .names) × (a .names < 2 ^ 32) × (a .name < 2 ^ 40) × (a .ask + 8 * a .asks < 2 ^ 60) × Begun (now b) (now p) a t (j + 1) (put c (j + 1) start end) × Leads (now b) (now p) a t (now times) (now rests) ⌝ }
-    ensures { λ r. ⌜ r ≡ placeable (now (b .entry)) (now (p .entry)) a n (j + 1) (put c (j + 1) start end) ⌝ }
+    requires { ⌜ (j + n + 1 ≡ a .names) × (a .names < 2 ^ 32) × (a .name < 2 ^ 40) × (a .ask + 8 * a .asks < 2 ^ 60) × Begun (now b) (now p) a t (j + 1) (put c (j + 1) start end job) × Leads (now b) (now p) a t (now times) (now rests) ⌝ }
+    ensures { λ r. ⌜ r ≡ placeable (now (b .entry)) (now (p .entry)) a n (j + 1) (put c (j + 1) start end job) ⌝ }
 {
     let mut d = c;
-    put(&mut d, j + 1, start, end);
+    put(&mut d, j + 1, start, end, job);
     place(n, j + 1, b, p, t, a, d, times, rests)
 }
 
-// Eleven words from a place on: a choice.
-fn load(m: &[u64], k: usize) -> [u64; 11]
+// A choice from a place on.
+fn load(m: &[u64], k: usize) -> [u64; 16]
     requires { ⌜ k < 2 ^ 60 ⌝ }
     ensures { λ r. ⌜ r ≡ row (now (m .entry)) k ⌝ }
 {
-    let a = time_at(m, k, 0);
-    let b = time_at(m, k + 1, 0);
-    let c = time_at(m, k + 2, 0);
-    let d = time_at(m, k + 3, 0);
-    let e = time_at(m, k + 4, 0);
-    let f = time_at(m, k + 5, 0);
-    let g = time_at(m, k + 6, 0);
-    let h = time_at(m, k + 7, 0);
-    let i = time_at(m, k + 8, 0);
-    let j = time_at(m, k + 9, 0);
-    let l = time_at(m, k + 10, 0);
-    [a, b, c, d, e, f, g, h, i, j, l]
+    let mut c = [0u64; 16];
+    let mut i: usize = 0;
+    while i < 16 {
+        set_time(&mut c, i, time_at(m, k + i, 0));
+        i += 1;
+    }
+    c
 }
 
-// Stores eleven words from a place on.
-fn store(m: &mut [u64], k: usize, c: &[u64; 11])
+// Stores a choice from a place on.
+fn store(m: &mut [u64], k: usize, c: &[u64; 16])
     requires { ⌜ k < 2 ^ 60 ⌝ }
     ensures { λ _. ⌜ Storing (now (m .entry)) (now (m .exit)) k (now (c .entry)) rowSize ⌝ }
 {
     let mut i: usize = 0;
-    while i < 11 {
+    while i < 16 {
         set_time(m, k + i, time_at(c, i, 0));
         i += 1;
     }
 }
 
 // Stores in a slot where the marks are.
-fn keep(kept: &mut [u64], slot: usize, times: &[u64; 11], rests: &[u64; 11])
+fn keep(kept: &mut [u64], slot: usize, times: &[u64; 16], rests: &[u64; 16])
     requires { ⌜ slot < 2 ^ 50 ⌝ }
     ensures { λ _. ⌜ Keeping (now (kept .entry)) (now (kept .exit)) slot (now (times .entry)) (now (rests .entry)) ⌝ }
 {
     set_time(kept, slot, 1);
     store(kept, slot + 1, times);
-    store(kept, slot + 12, rests);
+    store(kept, slot + 17, rests);
 }
 
 // Raises marks and keeps them: whether there may be a choice.
@@ -180,8 +214,8 @@ fn carry_on(
     p: &[u32],
     t: Token,
     a: Alternative,
-    times: &mut [u64; 11],
-    rests: &mut [u64; 11],
+    times: &mut [u64; 16],
+    rests: &mut [u64; 16],
     kept: &mut [u64],
     slot: usize,
 ) -> bool
@@ -208,8 +242,8 @@ fn carry_on(
 // Whether an alternative may have a choice, and marks from which it is to be searched.
 pub struct Lead {
     pub open: bool,
-    pub times: [u64; 11],
-    pub rests: [u64; 11],
+    pub times: [u64; 16],
+    pub rests: [u64; 16],
 }
 
 // Raises the marks of an alternative for the trigger token t: those kept from the trigger tokens before it, or new ones.
@@ -226,7 +260,7 @@ fn settle(
     ensures { λ r. ⌜ Settled (now (b .entry)) (now (p .entry)) a t (r .open) (r .times) (r .rests) × Carry (now (b .entry)) (now (p .entry)) a t (now (kept .exit)) slot × Slot (now (kept .entry)) (now (kept .exit)) slot ⌝ }
 {
     let mut times = triggered(last, t);
-    let mut rests = [0u64; 11];
+    let mut rests = [0u64; 16];
     if a.names > 4 {
         return Lead {
             open: true,
@@ -244,10 +278,10 @@ fn settle(
     }
     if state == 1 {
         let mut held = load(kept, slot + 1);
-        let mut left = load(kept, slot + 12);
+        let mut left = load(kept, slot + 17);
         let start = t.start;
         let end = t.end;
-        put(&mut held, 0, start.tick, end.tick);
+        put(&mut held, 0, start.tick, end.tick, t.job as u64);
         let open = carry_on(b, p, t, a, &mut held, &mut left, kept, slot);
         return Lead {
             open,
@@ -268,7 +302,7 @@ fn settle(
 }
 
 // Whether one of the n alternatives from number `first` on is met for the trigger token t: the first alternative and assignment found
-// settles it. The plan ends at `last`. `kept` has the marks of the trigger tokens before t, 23 words for each alternative.
+// settles it. The plan ends at `last`. `kept` has the marks of the trigger tokens before t, 33 words for each alternative.
 pub fn met(
     e: usize,
     b: &[u32],
@@ -299,27 +333,41 @@ pub fn met(
                     break 'settled;
                 }
             } else {
-                let w = tokens_left(b, p, t, a, 0, &times, &rests);
+                let w = tokens_tied(b, a, &c, 0, tokens_left(b, p, t, a, 0, &times, &rests));
                 let mut token = w.place;
                 let mut start = w.start;
                 let mut count = w.count;
                 while count != 0 {
                     let end = start + word_at(p, token + 1) as u64;
-                    if word_at(p, token) == w.value {
-                        if try_token(a.names - 1, start, end, 0, b, p, t, a, c, &times, &rests) {
+                    if wanted(p, w, token) {
+                        let job = lines::job_at(p, token) as u64;
+                        if try_token(
+                            a.names - 1,
+                            start,
+                            end,
+                            job,
+                            0,
+                            b,
+                            p,
+                            t,
+                            a,
+                            c,
+                            &times,
+                            &rests,
+                        ) {
                             found = true;
                             break 'settled;
                         }
                     }
                     start = end;
-                    token += 2;
+                    token += w.width;
                     count -= 1;
                 }
             }
         }
         alternatives -= 1;
         at += 4;
-        slot += 23;
+        slot += 33;
     }
     found
 }

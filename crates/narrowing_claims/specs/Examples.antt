@@ -19,7 +19,7 @@ use Rattle.book.specs.Fault as book
 use Rattle.book.specs.Rules.{nameAt, constraintAt, alternativeAt, ruleAt}
 use Rattle.book.proofs.Specimen.{sheetE}
 use Rattle.lines.specs.declared.Token.{Token}
-use Rattle.lines.specs.Lines.{token, tokensFrom, lineOf}
+use Rattle.lines.specs.Lines.{token, tokenWidth, jobAt, tokensFrom, lineOf}
 use Rattle.lines.specs.Ends.{planEnd, endFrom, endsApart, endsFault}
 use Rattle.plan.specs.Fault as plan
 use Rattle.allen.specs.Relation.{relationOf}
@@ -40,18 +40,18 @@ use Rattle.narrowing_claims.specs.Specimens.{nines}
 
 -- the RIP's first job of P2
 abbrev job : Token
-job = token 1 10 30
+job = token 1 10 30 0
 
 job-on : Among job (triggerLine (lineOf planP2) (ruleIn sheetE 0))
-unfolding triggerLine lineOf tokensFrom ruleAt ruleOf owner least
+unfolding triggerLine lineOf tokenWidth jobAt tokensFrom ruleAt ruleOf owner least
 job-on = record { index = 1; within = lit< tt; here = refl }
 
 met : alternativeMet constraintHolds (lineOf planP2) (triggered (planEnd (lineOf planP2)) job) (alternativeIn sheetE 0) ≡ true
-unfolding alternativeMet place put tokenTime constraintHolds relationOf first any all run lineOf tokensFrom alternativeAt nameAt constraintAt inSet
+unfolding alternativeMet place put tokenTime constraintHolds relationOf first any all run lineOf tokenWidth jobAt tokensFrom alternativeAt nameAt constraintAt inSet
 met = refl
 
 pub meeting : (ts : List Token) × Meeting sheetE 0 planP2 job ts
-unfolding isTrigger ruleAt ruleOf owner least plan.planFault endFrom endsApart endsFault lineOf tokensFrom inBounds plan.lengthFault plan.headFault plan.endFault plan.tokensFault plan.sumBefore plan.headWrong plan.startOf plan.durationOutside plan.notSuccessor plan.tokenFault plan.tokenWrong plan.firstToken plan.lineWrong orElse inSet
+unfolding isTrigger ruleAt ruleOf owner least plan.planFault endFrom endsApart endsFault lineOf tokenWidth jobAt tokensFrom inBounds plan.lengthFault plan.headFault plan.endFault plan.tokensFault plan.sumBefore plan.headWrong plan.startOf plan.durationOutside plan.notSuccessor plan.tokenFault plan.tokenWrong plan.firstToken plan.lineWrong orElse inSet
 meeting =
     let w = alternative-iff constraintHolds (lineOf planP2) job (alternativeIn sheetE 0) .0 met in
     (w .0, record { plan = refl; on = job-on; trigger = refl; meets = w .1 })
@@ -80,10 +80,10 @@ bothBefore =
 abbrev oneToken : List ℕ
 oneToken = 1 ∷ 7 ∷ 1 ∷ 0 ∷ 1 ∷ 0 ∷ 5 ∷ []
 
-only-on : Among (token 0 0 5) (triggerLine (lineOf oneToken) (ruleIn bothBefore 0))
-unfolding triggerLine lineOf tokensFrom ruleAt ruleOf owner least
+only-on : Among (token 0 0 5 0) (triggerLine (lineOf oneToken) (ruleIn bothBefore 0))
+unfolding triggerLine lineOf tokenWidth jobAt tokensFrom ruleAt ruleOf owner least
 only-on = record { index = 0; within = lit< tt; here = refl }
 
-pub nothing-meets : alternativeMet constraintHolds (lineOf oneToken) (triggered (planEnd (lineOf oneToken)) (token 0 0 5)) (alternativeIn bothBefore 0) ≡ false
-unfolding nines narrowing tableAfter numberFault roomFault orElse wordsFor firstTable constraintsOf firstToken ruleOf firstWord filled cutBy constrained constrainedAll cutWord stepWord through still passes sum narrowed pairSet rowSet composeSets converseSet down unions chosen constraintAt book.lengthFault book.headerFault book.endFault book.recordFault book.bookFault setWrong valueTests fifthTestsOf fifthTests first wrongWord recordWrong leaves tableWrong toldWord fifthWidth fifthMost begins headerWrong starts owner run least inSet any all isTrigger ruleAt plan.planFault endFrom endsApart endsFault lineOf tokensFrom inBounds plan.lengthFault plan.headFault plan.endFault plan.tokensFault plan.sumBefore plan.headWrong plan.startOf plan.durationOutside plan.notSuccessor plan.tokenFault plan.tokenWrong plan.firstToken plan.lineWrong
-nothing-meets = none-meets bothBefore 0 (nines 4) refl 0 1 (lit< tt) (lit< tt) refl oneToken refl (token 0 0 5) only-on refl
+pub nothing-meets : alternativeMet constraintHolds (lineOf oneToken) (triggered (planEnd (lineOf oneToken)) (token 0 0 5 0)) (alternativeIn bothBefore 0) ≡ false
+unfolding nines narrowing tableAfter numberFault roomFault orElse wordsFor firstTable constraintsOf firstToken ruleOf firstWord filled cutBy constrained constrainedAll cutWord stepWord through still passes sum narrowed pairSet rowSet composeSets converseSet down unions chosen constraintAt book.lengthFault book.headerFault book.endFault book.recordFault book.bookFault setWrong valueTests fifthTestsOf fifthTests first wrongWord recordWrong leaves tableWrong toldWord fifthWidth fifthMost begins headerWrong starts owner run least inSet any all isTrigger ruleAt plan.planFault endFrom endsApart endsFault lineOf tokenWidth jobAt tokensFrom inBounds plan.lengthFault plan.headFault plan.endFault plan.tokensFault plan.sumBefore plan.headWrong plan.startOf plan.durationOutside plan.notSuccessor plan.tokenFault plan.tokenWrong plan.firstToken plan.lineWrong
+nothing-meets = none-meets bothBefore 0 (nines 4) refl 0 1 (lit< tt) (lit< tt) refl oneToken refl (token 0 0 5 0) only-on refl

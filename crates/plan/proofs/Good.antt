@@ -16,7 +16,7 @@ use Rattle.clock.specs.Clock.{lastTick, noLimit, inBounds}
 use Rattle.clock.proofs.Laws.{lasts-iff}
 use Rattle.layout.specs.Layout.{count}
 use Rattle.layout.proofs.Tests.{or-right, not-right}
-use Rattle.lines.specs.Lines.{lineCount, valueOf}
+use Rattle.lines.specs.Lines.{lineCount, tokenWidth, valueOf}
 use Rattle.lines.specs.Fault.{lengthFault, sumBefore, headWrong, headFault, endFault}
 use Rattle.lines.proofs.Head.{head-good, head-back}
 use Rattle.lines.specs.Ends.{endsApart, endsFault}
@@ -122,7 +122,7 @@ module _ (b p : List ℕ) where
         le-ltb (length p) (3 + 2 * count b 0) (g .long),
         le-ltb 16384 (length p) (g .short),
         none-below (3 + 2 * count b 0) (headWrong b p) .1 (head-back b p (g .head)),
-        eq-eqb (3 + 2 * count b 0 + 2 * sumBefore p (count b 0)) (length p) (g .whole),
+        eq-eqb (3 + 2 * count b 0 + tokenWidth p * sumBefore p (count b 0)) (length p) (g .whole),
         none-below (count b 0) (lineWrong b p) .1 (λ v l. line-back v (g .tokens v l)),
         none-below (count b 0) (endsApart p) .1 (λ v l. rw (eq-eqb _ _ (g .together v l))),
       )

@@ -7,6 +7,7 @@ use Prim.Native.Nat.{ℕ, zero, suc, _+_, _-_, _*_, _≤_, _<_}
 use native.Mathlib.Numerals.{add-one}
 use native.Mathlib.Omega.{arith}
 use lib.Dec.{eqb}
+use lib.ListN.{length}
 use borrow.Author.Tests.{lt-ltb, le-ltb, ne-eqb}
 use Rattle.words.specs.Words.{word}
 use Rattle.words.specs.Least.{Clear, clear-none, clear-more, least-at, least-end}
@@ -16,7 +17,8 @@ use Rattle.clock.specs.Clock.{lastTick, later}
 use Rattle.clock.proofs.Laws.{past-is, at-is}
 use Rattle.answers.specs.Numbers.{numbers, noFault}
 use Rattle.layout.specs.Layout.{count, valuesOf}
-use Rattle.lines.specs.Lines.{lineCount, valueOf, durationOf, startOf}
+use Rattle.lines.specs.Lines.{lineCount, tokenWidth, linePlace, valueOf, durationOf, startOf}
+use Rattle.lines.proofs.Width.{words-inside, width-few}
 use Rattle.plan.specs.declared.Line.{Line}
 use Rattle.plan.specs.declared.Value.{Value}
 use Rattle.plan.specs.Fault.{durationOutside, valuePlace, notSuccessor, tokenFault, tokenWrong, firstToken, lineWrong, firstLine, tokensFault}
@@ -56,12 +58,27 @@ module _ (b p : List ℕ) (v : ℕ) where
   token-is (suc j) start set a = let last : suc j - 1 ≡ j = omega arith in rw (a .follows, last)
 
   pub read : (line : Line) → Constants b p v line → (j start set : ℕ) → Along b p v j start set
-      → (x d number : ℕ) (value : Value) → x ≡ word p (line .place + 2 * j) → d ≡ word p (line .place + 2 * j + 1)
+      → (w taken x d number : ℕ) (value : Value) → w ≡ tokenWidth p → taken ≡ w * j
+      → x ≡ word p (line .place + taken) → d ≡ word p (line .place + taken + 1)
       → value ≡ valueAt b (line .values) (line .base + x * 3) x → number ≡ faultOf value x d (eqb j 0) set
       → Read j x d number value
-  read line k j start set a x d number value ex ed ev en =
-      let at : line .base + x * 3 ≡ valuePlace b v x = omega (arith, k .base) in
-      record { named = cc; duration = cc; placed = ev ∙ rw (at, k .values); fault = en ∙ rw (ev, at, ed, ex, k .place, k .values) (token-is j start set a) }
+  read line k j start set a w taken x d number value ew et ex ed ev en =
+      let placed : line .base + x * 3 ≡ valuePlace b v x = omega (arith, k .base) in
+      let here : line .place + taken ≡ linePlace p v + tokenWidth p * j = rw (et, ew, k .place) in
+      record {
+        named = ex ∙ rw here;
+        duration = ed ∙ rw here;
+        placed = ev ∙ rw (placed, k .values);
+        fault = en ∙ rw (ev, placed, ed, ex, here, k .values) (token-is j start set a);
+      }
+
+  -- its words stand inside the plan
+  pub words-there : (line : Line) → Constants b p v line → linePlace p v + tokenWidth p * lineCount p v ≤ length p
+      → (j w taken : ℕ) → j < line .tokens → w ≡ tokenWidth p → taken ≡ w * j → line .place + taken + 1 < length p
+  words-there line k inside j w taken l ew et =
+      let own = words-inside (tokenWidth p) j (lineCount p v) (omega (arith, k .tokens)) in
+      let here : taken ≡ tokenWidth p * j = rw (et, ew) in
+      omega (arith, k .place, width-few p .0)
 
   -- the running start and what the time type adds to it: past the last tick, or the token's end
   late-is : (j start set : ℕ) → Along b p v j start set → (d : ℕ) → d ≡ durationOf p v j → later lastTick start d ≡ Past → lateAt b p v j ≡ true

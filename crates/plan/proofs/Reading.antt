@@ -13,9 +13,10 @@ use Rattle.layout.specs.Layout.{count}
 use Rattle.lines.specs.declared.Token.{Token}
 use Rattle.lines.specs.declared.Step.{Step}
 use Rattle.lines.specs.declared.Step.the-variants.{Handed}
-use Rattle.lines.specs.Lines.{token, lineCount, linePlace, valueOf, durationOf, startOf, tokensFrom, lineOf}
+use Rattle.lines.specs.Lines.{token, lineCount, tokenWidth, linePlace, valueOf, durationOf, jobOf, startOf, tokensFrom, lineOf}
 use Rattle.lines.specs.Walk.{position, names, stepOf}
 use Rattle.lines.specs.Reading.{handsOut, handed}
+use Rattle.lines.proofs.Width.{words-inside}
 use Rattle.lines.proofs.Head.{line-inside}
 use Rattle.lines.proofs.Reading.{none-handed, past-end}
 use Rattle.plan.specs.Good.{PlanGood}
@@ -27,35 +28,38 @@ module _ (b p : List ℕ) (g : PlanGood b p) (v : ℕ) (l : v < count b 0) where
   token-named j h =
       let t = g .tokens v l j h in
       let inside = line-inside b p (g .head) (g .whole) v l in
+      let own = words-inside (tokenWidth p) j (lineCount p v) h in
       let lines = g .head .timelines in
       rw (
         lt-ltb v (word p 2) (omega arith),
         lt-ltb j (lineCount p v) h,
-        lt-ltb (linePlace p v + 2 * j + 1) (length p) (omega arith),
+        le-leb (linePlace p v + tokenWidth p * j + tokenWidth p) (length p) (omega arith),
         le-leb (startOf p v j + durationOf p v j) lastTick (t .soon),
       )
 
   -- so a step there hands it out
   step-token : (j : ℕ) → j < lineCount p v
       → stepOf p (position v j (startOf p v j))
-      ≡ Handed (token (valueOf p v j) (startOf p v j) (startOf p v j + durationOf p v j)) (position v (j + 1) (startOf p v j + durationOf p v j))
+      ≡ Handed (token (valueOf p v j) (startOf p v j) (startOf p v j + durationOf p v j) (jobOf p v j))
+      (position v (j + 1) (startOf p v j + durationOf p v j))
   unfolding stepOf
   step-token j h = rw (token-named j h)
 
   -- from token j on, m tokens are left
   handed-rest : (m j n : ℕ) → j + m ≡ lineCount p v → m ≤ n
-      → handed p n (position v j (startOf p v j)) ≡ tokensFrom p m (linePlace p v + 2 * j) (startOf p v j)
+      → handed p n (position v j (startOf p v j)) ≡ tokensFrom p m (linePlace p v + tokenWidth p * j) (startOf p v j)
   unfolding handed tokensFrom startOf
   handed-rest zero j n e h = none-handed p n _ (past-end p v j (startOf p v j) (omega arith))
   handed-rest (suc m) j zero e h = absurd (omega arith)
   handed-rest (suc m) j (suc n) e h =
-      let at : linePlace p v + 2 * (j + 1) ≡ linePlace p v + 2 * j + 2 = omega arith in
+      let w = tokenWidth p in
+      let at : linePlace p v + w * (j + 1) ≡ linePlace p v + w * j + w = omega arith in
       let next : startOf p v (j + 1) ≡ startOf p v j + durationOf p v j = rw (add-one j) in
       let rest = handed-rest m (j + 1) n (omega arith) (omega arith) in
       ap (λ (s : Step). handsOut s (handed p n)) (step-token j (omega arith))
-      ∙ ap (λ (ts : List Token). token (valueOf p v j) (startOf p v j) (startOf p v j + durationOf p v j) ∷ ts) (rw (next, at) at rest)
+      ∙ ap (λ (ts : List Token). token (valueOf p v j) (startOf p v j) (startOf p v j + durationOf p v j) (jobOf p v j) ∷ ts) (rw (next, at) at rest)
 
-  -- "hands out value, start and end of each token in turn": n steps from the start hand out the decoded line, if they are enough
+  -- "hands out value, start and end of each token in turn", and its job: n steps from the start hand out the decoded line, if they are enough
   pub handed-line : (n : ℕ) → lineCount p v ≤ n → handed p n (position v 0 0) ≡ lineOf p v
   unfolding lineOf startOf
   handed-line n h = handed-rest (lineCount p v) 0 n (omega arith) h ∙ ap (λ (k : ℕ). tokensFrom p (lineCount p v) k 0) (omega arith)

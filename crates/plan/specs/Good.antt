@@ -8,7 +8,7 @@ use lib.ListN.{length}
 use Rattle.words.specs.Words.{word, inSet}
 use Rattle.clock.specs.Clock.{lastTick, noLimit}
 use Rattle.layout.specs.Layout.{count, valuesOf}
-use Rattle.lines.specs.Lines.{lineCount, valueOf, durationOf, startOf, lineOf}
+use Rattle.lines.specs.Lines.{lineCount, tokenWidth, valueOf, durationOf, startOf, lineOf}
 use Rattle.lines.specs.Ends.{lineEnd, planEnd}
 use Rattle.lines.specs.Fault.{sumBefore}
 pub use Rattle.lines.specs.Good.{HeadGood}
@@ -27,6 +27,6 @@ pub record PlanGood (b p : List ℕ) : Type 0 where
   pub long : 3 + 2 * count b 0 ≤ length p
   pub short : length p ≤ 16384
   pub head : HeadGood b p
-  pub whole : 3 + 2 * count b 0 + 2 * sumBefore p (count b 0) ≡ length p
+  pub whole : 3 + 2 * count b 0 + tokenWidth p * sumBefore p (count b 0) ≡ length p
   pub tokens : (v : ℕ) → v < count b 0 → (j : ℕ) → j < lineCount p v → TokenGood b p v j
   pub together : (v : ℕ) → v < count b 0 → lineEnd (lineOf p v) ≡ planEnd (lineOf p)

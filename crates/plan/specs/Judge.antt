@@ -7,7 +7,7 @@ use lib.Dec.{leb}
 use lib.ListN.{length}
 use Rattle.words.specs.Words.{word, inSet}
 use Rattle.layout.specs.Layout.{count, offset, field, valuesOf}
-use Rattle.lines.specs.Lines.{lineCount, linePlace}
+use Rattle.lines.specs.Lines.{lineCount, tokenWidth, linePlace}
 use Rattle.plan.specs.declared.Line.{Line}
 use Rattle.plan.specs.declared.Value.{Value}
 use Rattle.plan.specs.Fault.{outsideOf, tokenFault, firstToken, lineWrong}
@@ -28,7 +28,7 @@ pub record Constants (b p : List ℕ) (v : ℕ) (r : Line) : Type 0 where
 
 -- the tokens of every line stand inside the plan
 abbrev pub Within : List ℕ → List ℕ → Type 0
-Within b p = (v : ℕ) → v < count b 0 → linePlace p v + 2 * lineCount p v ≤ length p
+Within b p = (v : ℕ) → v < count b 0 → linePlace p v + tokenWidth p * lineCount p v ≤ length p
 
 -- value x at a place of the book, of a variable with `values` values
 abbrev pub valueAt : List ℕ → ℕ → ℕ → ℕ → Value

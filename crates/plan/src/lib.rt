@@ -6,7 +6,7 @@ ghost use mathlib.Core.Path.{_≡_};
 ghost use Prim.Native.Nat.{_+_, _*_, _≤_, _<_, _^_};
 ghost use Rattle.answers.specs.Numbers.{numbers, numbersOf};
 ghost use lib.ListN.{length};
-ghost use Rattle.lines.specs.Lines.{lineCount, linePlace};
+ghost use Rattle.lines.specs.Lines.{lineCount, tokenWidth, linePlace};
 ghost use Rattle.plan.specs.Fault.{outsideOf, firstToken, tokensFault, planFault};
 ghost use Rattle.plan.specs.Judge.{Inside, Constants, Within, valueAt, breaksOf, faultOf, lineNumber};
 
@@ -90,8 +90,7 @@ fn line_of(book: &[u32], plan: &[u32], v: usize) -> Line
     let values = words::word_at(book, variable + 1);
     let base = words::number_at(book, 5) + first * 3;
     let inside = inside_of(book, base, values);
-    let lines = words::number_at(plan, 2);
-    let place = 3 + 2 * lines + 2 * words::number_at(plan, 3 + 2 * v);
+    let place = lines::line_place(plan, v);
     let tokens = words::word_at(plan, 4 + 2 * v);
     Line {
         place,
@@ -129,9 +128,10 @@ fn value_of(book: &[u32], line: Line, x: u32) -> Value
 
 // The first faulty token of line v, with its fault. The running start and the successor set of the token before are carried along.
 fn line_fault(book: &[u32], plan: &[u32], v: usize) -> Found
-    requires { ⌜ (v < 2 ^ 32) × (linePlace (now plan) v + 2 * lineCount (now plan) v ≤ length (now plan)) ⌝ }
+    requires { ⌜ (v < 2 ^ 32) × (linePlace (now plan) v + tokenWidth (now plan) * lineCount (now plan) v ≤ length (now plan)) ⌝ }
     ensures { λ r. ⌜ (r .number ≡ lineNumber (now (book .entry)) (now (plan .entry)) v) × (r .token ≡ firstToken (now (book .entry)) (now (plan .entry)) v) ⌝ }
 {
+    let width = lines::token_width(plan);
     let line = line_of(book, plan, v);
     let place = line.place;
     let tokens = line.tokens;
@@ -139,7 +139,7 @@ fn line_fault(book: &[u32], plan: &[u32], v: usize) -> Found
     let mut start = Time { tick: 0 };
     let mut set: u32 = 0;
     while j < tokens {
-        let at = place + 2 * (j as usize);
+        let at = place + lines::words_of(width, j as usize);
         let x = plan[at];
         let d = plan[at + 1];
         let value = value_of(book, line, x);

@@ -54,8 +54,8 @@ stops p zero q h = first-stop p q (stepOf p q) refl h
 stops p (suc n) q h = later-stop p n q (stepOf p q) refl (stops p n) h
 
 module _ (b p : List ℕ) (line : ℕ) where
-  -- "hands out value, start and end of each token in turn, then "no more" for ever": once opened, as many steps as the line has tokens, or
-  -- more, hand out the decoded line, and each step from there on says "no more"
+  -- "hands out value, start and end of each token in turn", and its job, "then "no more" for ever": once opened, as many steps as the line
+  -- has tokens, or more, hand out the decoded line, and each step from there on says "no more"
   pub opened-reads : openFault b p line .number ≡ 0 → (n : ℕ) → lineCount p line ≤ n
       → (handed p n (openAt b p line) ≡ lineOf p line) × (stepOf p (after p n (openAt b p line)) ≡ NoMore (after p n (openAt b p line)))
   opened-reads h n l =

@@ -75,14 +75,23 @@ triggerValueWrong e b v x = (eqb v noLimit && not (eqb x 0)) || (not (eqb v noLi
 abbrev pub tokenWrong : ℕ → Bool → ℕ → Bool
 tokenWrong n trigger x = ltb n x || (eqb x 0 && not trigger)
 
--- "A term's kind is 0 start of, 1 end of, 2 time point", and "kind 3, end of the plan"
+-- "A term's kind is 0 start of, 1 end of, 2 time point", "kind 3, end of the plan", "kind 4, job of"
 abbrev pub kindWrong : ℕ → Bool
-kindWrong kind = ltb 3 kind
+kindWrong kind = ltb 4 kind
 
--- "For 0 and 1 the argument is" a token; "A time point is 0..1,000,000,000"; "end of the plan, argument 0"
+-- kind 4 "stands on both sides of an atom or on neither": the right kind, given the left one
+abbrev pub rightKindWrong : ℕ → ℕ → Bool
+rightKindWrong left right = kindWrong right || ((eqb left 4 && not (eqb right 4)) || (not (eqb left 4) && eqb right 4))
+
+-- "For 0 and 1 the argument is" a token, and "argument as in kind 0"; "A time point is 0..1,000,000,000"; "end of the plan, argument 0"
 abbrev pub argumentWrong : ℕ → Bool → ℕ → ℕ → Bool
 argumentWrong n trigger kind x =
-    (eqb kind 2 && ltb lastTick x) || ((eqb kind 3 && not (eqb x 0)) || (ltb kind 2 && tokenWrong n trigger x))
+    (eqb kind 2 && ltb lastTick x)
+    || ((eqb kind 3 && not (eqb x 0)) || ((ltb kind 2 && tokenWrong n trigger x) || (eqb kind 4 && tokenWrong n trigger x)))
+
+-- "its bounds must be 0 and 0": one of the bounds of an atom, given its left kind
+abbrev pub jobBoundWrong : ℕ → ℕ → Bool
+jobBoundWrong left x = eqb left 4 && not (eqb x 0)
 
 -- ---- the tests of the words of a record, by its table
 
@@ -115,16 +124,18 @@ alternativeTests e b i =
 abbrev pub nameTests : ℕ → List ℕ → ℕ → List Bool
 nameTests e b i = variableUnknown b (field e b 4 i 0) ∷ valueUnknown e b (field e b 4 i 0) (field e b 4 i 1) ∷ []
 
+-- the two bounds of an atom, given its left kind
+abbrev pub boundsTests : ℕ → ℕ → ℕ → List Bool
+boundsTests left lower upper = (lowerWrong 0 lower || jobBoundWrong left lower) ∷ (upperWrong lower upper || jobBoundWrong left upper) ∷ []
+
 -- the atom at a place, in an alternative with n names, whose rule has a trigger or not
 abbrev pub atomTests : List ℕ → ℕ → ℕ → Bool → List Bool
 atomTests b at n trigger =
     kindWrong (word b at)
     ∷ argumentWrong n trigger (word b at) (word b (at + 1))
-    ∷ kindWrong (word b (at + 2))
+    ∷ rightKindWrong (word b at) (word b (at + 2))
     ∷ argumentWrong n trigger (word b (at + 2)) (word b (at + 3))
-    ∷ lowerWrong 0 (word b (at + 4))
-    ∷ upperWrong (word b (at + 4)) (word b (at + 5))
-    ∷ []
+    ∷ boundsTests (word b at) (word b (at + 4)) (word b (at + 5))
 
 -- "left token, right token (0 the trigger, as above), and a set, 1..8,191"
 abbrev pub constraintTests : List ℕ → ℕ → ℕ → Bool → List Bool

@@ -10,7 +10,7 @@ ghost use Rattle.words.specs.Least.{first};
 ghost use Rattle.words.specs.Words.{word};
 ghost use Rattle.layout.specs.Layout.{offset, owner};
 ghost use Rattle.layout.specs.Owner.{Place};
-ghost use Rattle.records.specs.Wrong.{askRange, startWrong, numberWrong, lowerWrong, upperWrong, setWrong, tokenWrong, argumentWrong, atomTests, constraintTests, wrongWord};
+ghost use Rattle.records.specs.Wrong.{askRange, startWrong, numberWrong, lowerWrong, upperWrong, setWrong, tokenWrong, rightKindWrong, argumentWrong, jobBoundWrong, boundsTests, atomTests, constraintTests, wrongWord};
 use clock::Time;
 use layout::count_of;
 use layout::fifth_most;
@@ -71,12 +71,27 @@ fn token_wrong(n: usize, trigger: bool, x: usize) -> bool
     (x > n) | ((x == 0) & !trigger)
 }
 
+// Whether the right kind of an atom is none, given the left one: jobs stand on both sides or on neither.
+fn right_kind_wrong(left: usize, right: usize) -> bool
+    ensures { λ r. ⌜ r ≡ rightKindWrong left right ⌝ }
+{
+    (right > 4) | (((left == 4) & (right != 4)) | ((left != 4) & (right == 4)))
+}
+
+// Whether x is no bound of an atom of jobs, given its left kind.
+fn job_bound_wrong(left: usize, x: usize) -> bool
+    ensures { λ r. ⌜ r ≡ jobBoundWrong left x ⌝ }
+{
+    (left == 4) & (x != 0)
+}
+
 // Whether x is no argument for a term of this kind: a time point, 0 for the end of the plan, or a token.
 fn argument_wrong(n: usize, trigger: bool, kind: usize, x: usize) -> bool
     ensures { λ r. ⌜ r ≡ argumentWrong n trigger kind x ⌝ }
 {
+    let token = token_wrong(n, trigger, x);
     ((kind == 2) & (x > LAST_TICK))
-        | (((kind == 3) & (x != 0)) | ((kind < 2) & token_wrong(n, trigger, x)))
+        | (((kind == 3) & (x != 0)) | (((kind < 2) & token) | ((kind == 4) & token)))
 }
 
 // ---- the first wrong word of a record, at its place: one test for each word in turn, all of them made
@@ -173,6 +188,16 @@ fn name_word(b: &[u32], e: usize, i: usize, at: usize) -> usize
     behind(variable, behind(read(b, at + 1) >= values_of(b, v), 0))
 }
 
+// The first wrong of an atom's two bounds, or 2, given its left kind.
+fn bounds_word(left: usize, lower: usize, upper: usize) -> usize
+    ensures { λ r. ⌜ (r ≡ first (λ w. w) (boundsTests left lower upper)) × (r ≤ 2) ⌝ }
+{
+    behind(
+        lower_wrong(0, lower) | job_bound_wrong(left, lower),
+        behind(upper_wrong(lower, upper) | job_bound_wrong(left, upper), 0),
+    )
+}
+
 // The first wrong word of an atom, or its width, in an alternative with n names, whose rule has a trigger or not.
 fn atom_word(b: &[u32], at: usize, n: usize, trigger: bool) -> usize
     requires { ⌜ at + 6 ≤ length (now b) ⌝ }
@@ -181,14 +206,11 @@ fn atom_word(b: &[u32], at: usize, n: usize, trigger: bool) -> usize
     let left = read(b, at);
     let right = read(b, at + 2);
     let lower = read(b, at + 4);
-    let bounds = behind(
-        lower_wrong(0, lower),
-        behind(upper_wrong(lower, read(b, at + 5)), 0),
-    );
+    let bounds = bounds_word(left, lower, read(b, at + 5));
     let argument = argument_wrong(n, trigger, right, read(b, at + 3));
-    let rest = behind(right > 3, behind(argument, bounds));
+    let rest = behind(right_kind_wrong(left, right), behind(argument, bounds));
     behind(
-        left > 3,
+        left > 4,
         behind(argument_wrong(n, trigger, left, read(b, at + 1)), rest),
     )
 }

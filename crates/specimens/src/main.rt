@@ -1,5 +1,5 @@
-// Runs the specimens of document 01 that speak of files, a line each; the expected lines are in this crate's stdout. Those that 01 stars,
-// the first ten, are proved in claims too.
+// Runs the specimens of document 01 that speak of files, a line each, and those of jobs; the expected lines are in this crate's stdout. Those
+// that 01 stars, the first ten, are proved in claims too.
 
 // Judges a sheet, read directly, and a plan by their files' names, and prints the line.
 fn judge_sheet(sheet: &[u8], plan: &[u8]) {
@@ -49,4 +49,9 @@ fn main() {
     files::translate(b"eight.bin", b"made8.bin", b"made.bin.new");
     files::translate(b"thirteen.bin", b"made13.bin", b"made.bin.new");
     files::translate(b"all.bin", b"made13.bin", b"made.bin.new");
+    // tokens with jobs: P1 and P2 in edition 2, N among the jobs; P2's two words a token there; edition 3
+    files::judge(b"book.bin", b"p1jobs.bin");
+    files::judge(b"book.bin", b"p2jobs.bin");
+    files::judge(b"book.bin", b"two_words.bin");
+    files::judge(b"book.bin", b"edition3.bin");
 }

@@ -20,7 +20,7 @@ use Rattle.book.specs.Rules.{valueAt, variableAt, nameAt, atomAt, alternativeAt
 use Rattle.book.specs.Fault as book
 use Rattle.book.proofs.Specimen.{bookE}
 use Rattle.lines.specs.declared.Token.{Token}
-use Rattle.lines.specs.Lines.{tokensFrom, lineOf}
+use Rattle.lines.specs.Lines.{tokenWidth, jobAt, tokensFrom, lineOf}
 use Rattle.lines.specs.Ends.{endFrom, endsApart, endsFault}
 use Rattle.plan.specs.Fault as plan
 use Rattle.claims.specs.Papers.{SatisfiedIn, Maps}
@@ -116,6 +116,52 @@ told-end {before = before} t =
     let y = yes-shows t end-sound (omega arith) h in
     (h, y .shows ∙ ap (laid before) (earliest-one (ruleOf endBook 0) (alternativeOf endBook 0) (y .times) timesEnd (y .earliest) earliestEnd ∙ shownEnd))
 
+-- 02, L7: without trigger, one name, and "job of 1 = job of 1": the atom counts as met
+abbrev pub jobOnly : List ℕ
+jobOnly =
+    1 ∷ 35 ∷ 1 ∷ 14 ∷ 1 ∷ 16 ∷ 1 ∷ 19 ∷ 1 ∷ 23 ∷ 1 ∷ 27 ∷ 1 ∷ 29
+    ∷ 0 ∷ 1
+    ∷ 1 ∷ noLimit ∷ 1
+    ∷ noLimit ∷ 0 ∷ 0 ∷ 1
+    ∷ 0 ∷ 1 ∷ 0 ∷ 1
+    ∷ 0 ∷ 0
+    ∷ 4 ∷ 1 ∷ 4 ∷ 1 ∷ 0 ∷ 0 ∷ []
+
+earliestJob : Earliest (variablesOf jobOnly) (ruleOf jobOnly 0) (alternativeOf jobOnly 0) timesEnd
+unfolding run least owner inBounds valueAt variableAt nameAt atomAt alternativeAt ruleAt variablesOf shown shownFrom
+earliestJob =
+    record {
+      suits = record { trigger = λ n. absurd (n refl); names = names; atoms = atoms };
+      first = λ y s.
+          let one = s .names 0 (omega arith) in
+          let long = between (y .start 1) (y .end 1) 1 noLimit .0 (one .lasts) .least in
+          let within = one .within in
+          elim [ zero ↦ omega arith | suc zero ↦ omega arith | suc (suc zero) ↦ omega arith | suc (suc (suc i)) ↦ omega arith ];
+    }
+  where
+    names : (i : ℕ) → i < 1
+        → TokenTimes (variablesOf jobOnly) (getD (alternativeOf jobOnly 0 .names) i noName .variable) (getD (alternativeOf jobOnly 0 .names) i noName .value) (i + 1) timesEnd
+    names zero l = record { lasts = refl; within = omega arith }
+    names (suc i) l = absurd (omega arith)
+
+    atoms : (i : ℕ) → i < 1 → AtomMet (getD (alternativeOf jobOnly 0 .asks) i noAtom) timesEnd
+    atoms zero l n = absurd (n refl)
+    atoms (suc i) l n = absurd (omega arith)
+
+job-sound : book.bookFault 1 jobOnly .number ≡ 0
+unfolding orElse least first fifthWidth fifthMost begins headerWrong starts owner setWrong valueTests fifthTestsOf fifthTests wrongWord recordWrong leaves tableWrong toldWord book.lengthFault book.headerFault book.endFault book.recordFault book.bookFault
+job-sound = refl
+
+shownJob : shown (ruleOf jobOnly 0) (alternativeOf jobOnly 0) timesEnd ≡ 0 ∷ 1 ∷ 1 ∷ []
+unfolding run least owner nameAt alternativeAt ruleAt shown shownFrom
+shownJob = refl
+
+pub told-job : {r : Numbers} {before after : List ℕ} → Told jobOnly 0 r before after → (r ≡ numbers 0 1 0) × (after ≡ laid before (0 ∷ 1 ∷ 1 ∷ []))
+told-job {before = before} t =
+    let h = yes-exactly t job-sound (omega arith) .1 (timesEnd, earliestJob .suits) in
+    let y = yes-shows t job-sound (omega arith) h in
+    (h, y .shows ∙ ap (laid before) (earliest-one (ruleOf jobOnly 0) (alternativeOf jobOnly 0) (y .times) timesEnd (y .earliest) earliestJob ∙ shownJob))
+
 -- ---- "no"
 
 -- no trigger, two names of one value: the second starts "at least 40 after" the first, and "at most 30 after"
@@ -152,7 +198,7 @@ abbrev two : List ℕ
 two = 1 ∷ 9 ∷ 1 ∷ 0 ∷ 2 ∷ 0 ∷ 45 ∷ 0 ∷ 5 ∷ []
 
 two-passes : plan.planFault hopeless two .number ≡ 0
-unfolding orElse least first inSet inBounds tokensFrom lineOf endFrom endsApart endsFault plan.lengthFault plan.sumBefore plan.headWrong plan.headFault plan.endFault plan.startOf plan.durationOutside plan.notSuccessor plan.tokenFault plan.tokenWrong plan.firstToken plan.lineWrong plan.tokensFault plan.planFault
+unfolding orElse least first inSet inBounds tokenWidth jobAt tokensFrom lineOf endFrom endsApart endsFault plan.lengthFault plan.sumBefore plan.headWrong plan.headFault plan.endFault plan.startOf plan.durationOutside plan.notSuccessor plan.tokenFault plan.tokenWrong plan.firstToken plan.lineWrong plan.tokensFault plan.planFault
 two-passes = refl
 
 -- and no choice of its tokens meets the alternative

@@ -31,7 +31,7 @@ use Rattle.lines.specs.Lines.{lineOf}
 use Rattle.lines.specs.Ends.{endFrom, lineEnd, planEnd}
 use Rattle.plan.specs.Fault.{planFault}
 use Rattle.verdict.specs.Judged.{noRule}
-use Rattle.claims.specs.Papers.{tokenOf, noStatement, On, Evaluates, start, end, timestamp, endOfPlan, Satisfied, SatisfiedIn, Maps, Timeline, Plan}
+use Rattle.claims.specs.Papers.{tokenOf, noStatement, On, Evaluates, start, end, timestamp, endOfPlan, Bounded, Satisfied, SatisfiedIn, Maps, Timeline, Plan}
 use Rattle.claims.specs.Matched.{all-at}
 use Rattle.claims.specs.Accepted.{plan-none}
 use Rattle.earliest.specs.Times.{Times, timeOf, AtomMet, Lasting, noValue, noName, noAtom, noVariable, valueOf, TokenTimes, Suits, alternativeOf, ruleOf, SuitsOf, Told}
@@ -86,20 +86,23 @@ evaluated ts last _ _ _ (end k) = refl
 evaluated ts last _ _ _ (timestamp k) = refl
 evaluated ts last _ _ _ endOfPlan = refl
 
--- a satisfied atom is met
+-- a satisfied atom is met; "Job atoms count as met"
 satisfied : (ts : List Token) (last : ℕ) (q : Atom) → Satisfied last ts q → AtomMet q (timesOf ts last)
-satisfied ts last q s _ =
-    rw (evaluated ts last _ _ _ (s .isLeft), evaluated ts last _ _ _ (s .isRight))
-    (whole noLimit (s .left) (s .right) (q .lower) (q .upper) ∙ rw (s .lower) (upper (s .upper)))
+satisfied ts last q a ne = by (a .bounds ne)
   where
-    upper : (q .upper ≡ noLimit) ⊎ (leZ (subℕ (s .right) (s .left)) (pos (q .upper)) ≡ true)
-        → (eqb (q .upper) noLimit || leZ (subℕ (s .right) (s .left)) (pos (q .upper))) ≡ true
-    upper (inl e) = rw (eq-eqb _ _ e)
-    upper (inr e) = rw e (or-true (eqb (q .upper) noLimit))
+    by : Bounded last ts q → inBounds noLimit (timeOf (timesOf ts last) (q .leftKind) (q .left)) (timeOf (timesOf ts last) (q .rightKind) (q .right)) (q .lower) (q .upper) ≡ true
+    by s =
+        rw (evaluated ts last _ _ _ (s .isLeft), evaluated ts last _ _ _ (s .isRight))
+        (whole noLimit (s .left) (s .right) (q .lower) (q .upper) ∙ rw (s .lower) (upper (s .upper)))
       where
-        or-true : (t : Bool) → (t || true) ≡ true
-        or-true true = refl
-        or-true false = refl
+        upper : (q .upper ≡ noLimit) ⊎ (leZ (subℕ (s .right) (s .left)) (pos (q .upper)) ≡ true)
+            → (eqb (q .upper) noLimit || leZ (subℕ (s .right) (s .left)) (pos (q .upper))) ≡ true
+        upper (inl e) = rw (eq-eqb _ _ e)
+        upper (inr e) = rw e (or-true (eqb (q .upper) noLimit))
+          where
+            or-true : (t : Bool) → (t || true) ≡ true
+            or-true true = refl
+            or-true false = refl
 
 module _ {b : List ℕ} (s : Sound 1 b) (p : List ℕ) (plan : Plan (variablesOf b) (lineOf p)) (a : ℕ) (l : a < count b 3) where
   -- the line of a variable that exists is a timeline over it

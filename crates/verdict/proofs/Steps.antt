@@ -1,6 +1,6 @@
 -- One step of the judge's two loops, over trigger tokens and over rules, in the words of the code: what the whole comes to is what is
 -- passed and what the rest comes to. Assumes nothing.
-use mathlib.Core.Path.{_≡_, refl, sym, _∙_}
+use mathlib.Core.Path.{_≡_, refl, sym, ap, _∙_}
 use mathlib.Core.Bool.{Bool, true, false, _&&_, not, true≢false, false≢true}
 use mathlib.Core.List.{List, [], _∷_}
 use Prim.Native.Nat.{ℕ, zero, suc, _+_, _-_, _*_, _^_, _≤_, _<_}
@@ -17,7 +17,8 @@ use Rattle.answers.specs.Numbers.{numbers}
 use Rattle.layout.specs.Layout.{count, offset}
 use Rattle.book.specs.Rules.{ruleAt, rulesOf}
 use Rattle.lines.specs.declared.Token.{Token}
-use Rattle.lines.specs.Lines.{token as plan-token, lineFirst, lineCount, tokensFrom, lineOf}
+use Rattle.lines.specs.Lines.{token as plan-token, tokenWidth, jobAt, linePlace, lineCount, tokensFrom, lineOf}
+use Rattle.lines.proofs.Width.{width-few}
 use Rattle.choice.specs.Met.{nobody, met}
 use Rattle.choice.specs.Asked.{askHolds, metAt}
 use Rattle.verdict.specs.declared.Tally.{Tally}
@@ -29,7 +30,7 @@ use Rattle.verdict.specs.Survey.{placedRule, placedRules, placedFault, S
 
 -- the next token, d long, and those after it
 tokens-step : (p : List ℕ) (n place start d : ℕ) → 0 < n → d ≡ word p (place + 1)
-    → tokensFrom p n place start ≡ plan-token (word p place) start (start + d) ∷ tokensFrom p (n - 1) (place + 2) (start + d)
+    → tokensFrom p n place start ≡ plan-token (word p place) start (start + d) (jobAt p place) ∷ tokensFrom p (n - 1) (place + tokenWidth p) (start + d)
 unfolding tokensFrom
 tokens-step p zero place start d h e = absurd (omega arith)
 tokens-step p (suc n) place start d h e = rw e (simp sub-one)
@@ -71,23 +72,23 @@ pub record RuleWords (b : List ℕ) (place v f m : ℕ) : Type 0 where
 pub record OnLine (e : ℕ) (b p : List ℕ) (place n at start token seen : ℕ) : Type 0 where
   pub within : token ≤ n
   pub few : seen ≤ token
-  pub near : at + 2 * (n - token) < 2 ^ 60
+  pub near : at + 3 * (n - token) < 2 ^ 60
   pub early : start + 4294967296 * (n - token) < 2 ^ 64
   pub passed :
       Passed (failing e b p place) (counted (triggers e b p place)) (triggerLine (lineOf p) (placedRule e b place))
       (tokensFrom p (n - token) at start) token seen
 
--- none is passed; k is the number of lines, and f the line's first token
-pub line-start : (e : ℕ) (b p : List ℕ) (place line n k f : ℕ) → (word b place ≡ noLimit → ⊥) → line ≡ word b place → n ≡ lineCount p line
-    → k ≡ word p 2 → f ≡ lineFirst p line → n < 2 ^ 32 → k < 2 ^ 32 → f < 2 ^ 32 → OnLine e b p place n (3 + 2 * k + 2 * f) 0 0 0
+-- none is passed; `at` is where the line's tokens stand
+pub line-start : (e : ℕ) (b p : List ℕ) (place line n at : ℕ) → (word b place ≡ noLimit → ⊥) → line ≡ word b place → n ≡ lineCount p line
+    → at ≡ linePlace p line → n < 2 ^ 32 → at < 2 ^ 36 → OnLine e b p place n at 0 0 0
 unfolding triggerLine ruleAt lineOf
-line-start e b p place line n k f some hl hn hk hf ln lk lf =
+line-start e b p place line n at some hl hn hat ln lat =
     record {
       within = omega arith;
       few = omega arith;
       near = omega arith;
       early = omega arith;
-      passed = rw (ne-eqb (word b place) noLimit some, hn, hk, hf, hl, sub-zero) (passed-none _);
+      passed = rw (ne-eqb (word b place) noLimit some, hn, hat, hl, sub-zero) (passed-none _);
     }
 
 module _ (e : ℕ) (b p : List ℕ) {place v f m : ℕ} (r : RuleWords b place v f m) (t : Token) where
@@ -102,13 +103,13 @@ module _ (e : ℕ) (b p : List ℕ) {place v f m : ℕ} (r : RuleWords b place v
   failing-is = rw (triggers-is, met-at e b p place t, r .first, r .number)
 
 module _ {e : ℕ} {b p : List ℕ} {place n at start token seen v f m : ℕ} (h : OnLine e b p place n at start token seen)
-    (r : RuleWords b place v f m) (d w : ℕ) (more : token < n) (hd : d ≡ word p (at + 1)) (hw : w ≡ word p at) where
+    (r : RuleWords b place v f m) (d w k : ℕ) (more : token < n) (hd : d ≡ word p (at + 1)) (hw : w ≡ word p at) (hk : k ≡ tokenWidth p) where
   -- the next token, and those after it
   abbrev next : Token
-  next = plan-token w start (start + d)
+  next = plan-token w start (start + d) (jobAt p at)
 
   abbrev later : List Token
-  later = tokensFrom p (n - (token + 1)) (at + 2) (start + d)
+  later = tokensFrom p (n - (token + 1)) (at + k) (start + d)
 
   -- they are what is left
   ahead :
@@ -116,42 +117,44 @@ module _ {e : ℕ} {b p : List ℕ} {place n at start token seen v f m : ℕ} (h
   ahead =
       let left : n - token - 1 ≡ n - (token + 1) = omega arith in
       let some : 0 < n - token = omega arith in
-      rw (tokens-step p (n - token) at start d some hd, ← hw, left) at (h .passed)
+      rw hk (rw (tokens-step p (n - token) at start d some hd, ← hw, left) at (h .passed))
 
   -- it is passed
-  step : (k : ℕ) → k ≤ 1 → d < 2 ^ 32 → failing e b p place next ≡ false
-      → counted (triggers e b p place) (next ∷ later) ≡ k + counted (triggers e b p place) later
-      → OnLine e b p place n (at + 2) (start + d) (token + 1) (seen + k)
-  step k one low fine e =
+  step : (i : ℕ) → i ≤ 1 → d < 2 ^ 32 → failing e b p place next ≡ false
+      → counted (triggers e b p place) (next ∷ later) ≡ i + counted (triggers e b p place) later
+      → OnLine e b p place n (at + k) (start + d) (token + 1) (seen + i)
+  step i one low fine e =
       record {
         within = omega arith;
         few = omega (arith, h .few);
-        near = omega (arith, h .near);
+        near = omega (arith, h .near, hk, width-few p .1);
         early = omega (arith, h .early);
-        passed = passed-step next k ahead fine e;
+        passed = passed-step next i ahead fine e;
       }
 
   -- it is none of the trigger tokens
-  pub line-other : d < 2 ^ 32 → (w ≡ v → ⊥) → OnLine e b p place n (at + 2) (start + d) (token + 1) seen
+  pub line-other : d < 2 ^ 32 → (w ≡ v → ⊥) → OnLine e b p place n (at + k) (start + d) (token + 1) seen
   unfolding counted
   line-other low other =
       let none = ne-eqb w v other in
       rw add-zero at (step 0 (omega arith) low (failing-is e b p r next ∙ rw none) (rw (triggers-is e b p r next, none)))
 
   -- it is one, and the rule is met for it
-  pub line-met : (y : Bool) → d < 2 ^ 32 → w ≡ v → y ≡ metAt e b p (plan-token v start (start + d)) m (offset b 3 + 4 * f) → not y ≡ false
-      → OnLine e b p place n (at + 2) (start + d) (token + 1) (seen + 1)
+  pub line-met : (t : Token) (y : Bool) → d < 2 ^ 32 → w ≡ v → t ≡ plan-token (word p at) start (start + d) (jobAt p at)
+      → y ≡ metAt e b p t m (offset b 3 + 4 * f) → not y ≡ false → OnLine e b p place n (at + k) (start + d) (token + 1) (seen + 1)
   unfolding counted
-  line-met y low same hy met =
+  line-met t y low same ht hy met =
       let one = eq-eqb w v same in
-      step 1 (omega arith) low (failing-is e b p r next ∙ rw (one, same, ← hy, met)) (rw (triggers-is e b p r next, one))
+      let is : next ≡ t = ap (λ (z : ℕ). plan-token z start (start + d) (jobAt p at)) hw ∙ sym ht in
+      step 1 (omega arith) low (failing-is e b p r next ∙ rw (one, is, ← hy, met)) (rw (triggers-is e b p r next, one))
 
   -- it is one, and the rule isn't
-  pub line-unmet : (y : Bool) → w ≡ v → y ≡ metAt e b p (plan-token v start (start + d)) m (offset b 3 + 4 * f) → not y ≡ true
-      → Surveyed e b p place (record { unmet = ltb token n; token = token; count = seen })
+  pub line-unmet : (t : Token) (y : Bool) → w ≡ v → t ≡ plan-token (word p at) start (start + d) (jobAt p at)
+      → y ≡ metAt e b p t m (offset b 3 + 4 * f) → not y ≡ true → Surveyed e b p place (record { unmet = ltb token n; token = token; count = seen })
   unfolding ruleUnmet firstUnmet
-  line-unmet y same hy missed =
-      let bad = passed-bad next ahead (failing-is e b p r next ∙ rw (eq-eqb w v same, same, ← hy, missed)) in
+  line-unmet t y same ht hy missed =
+      let is : next ≡ t = ap (λ (z : ℕ). plan-token z start (start + d) (jobAt p at)) hw ∙ sym ht in
+      let bad = passed-bad next ahead (failing-is e b p r next ∙ rw (eq-eqb w v same, is, ← hy, missed)) in
       let here = lt-ltb token n more in
       record { unmet = here ∙ sym (bad .0); token = λ _. bad .1; count = λ z. absurd (true≢false (sym here ∙ z)) }
 

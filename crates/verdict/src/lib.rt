@@ -4,7 +4,7 @@ ghost use Prim.Native.Nat.{_+_, _*_, _<_, _^_};
 ghost use Rattle.words.specs.Words.{word};
 ghost use Rattle.clock.specs.Clock.{noLimit};
 ghost use Rattle.answers.specs.Numbers.{numbersOf};
-ghost use Rattle.lines.specs.Lines.{lineOf};
+ghost use Rattle.lines.specs.Lines.{token, jobAt, lineOf};
 ghost use Rattle.verdict.specs.Judged.{examined, judged, judgedSheet};
 ghost use Rattle.verdict.specs.Survey.{Surveyed, placedRules, placedFault, judgedBy};
 use answers::Answer;
@@ -20,6 +20,19 @@ pub struct Tally {
     pub count: u32,
 }
 
+// The token at a place of the plan, which lasts from start to end.
+fn token_at(p: &[u32], at: usize, start: u64, end: u64) -> Token
+    requires { ⌜ at < 2 ^ 60 ⌝ }
+    ensures { λ r. ⌜ r ≡ token (word (now (p .entry)) at) start end (jobAt (now (p .entry)) at) ⌝ }
+{
+    Token {
+        value: word_at(p, at),
+        start: Time { tick: start },
+        end: Time { tick: end },
+        job: lines::job_at(p, at),
+    }
+}
+
 // The trigger tokens of the rule at a place, on its trigger's line.
 fn survey_line(e: usize, b: &[u32], p: &[u32], place: usize) -> Tally
     requires { ⌜ (place < 2 ^ 60) × (word (now b) place ≡ noLimit → ⊥) ⌝ }
@@ -31,26 +44,23 @@ fn survey_line(e: usize, b: &[u32], p: &[u32], place: usize) -> Tally
     let first = word_at(b, place + 2);
     let n = word_at(b, place + 3);
     let count = word_at(p, 4 + 2 * line);
-    let mut at = 3 + 2 * number_at(p, 2) + 2 * number_at(p, 3 + 2 * line);
+    let width = lines::token_width(p);
+    let mut at = lines::line_place(p, line);
     let mut start: u64 = 0;
     let mut token: u32 = 0;
     let mut seen: u32 = 0;
-    let mut kept = [0u64; 1472];
+    let mut kept = [0u64; 2112];
     while token < count {
         let end = start + word_at(p, at + 1) as u64;
         if word_at(p, at) == value {
-            let t = Token {
-                value,
-                start: Time { tick: start },
-                end: Time { tick: end },
-            };
+            let t = token_at(p, at, start, end);
             if !matching::met(e, b, p, first, n, last, t, &mut kept) {
                 break;
             }
             seen += 1;
         }
         start = end;
-        at += 2;
+        at += width;
         token += 1;
     }
     Tally {
@@ -68,7 +78,7 @@ fn survey(e: usize, b: &[u32], p: &[u32], place: usize) -> Tally
     if word_at(b, place) != Time::NO_LIMIT {
         return survey_line(e, b, p, place);
     }
-    let mut kept = [0u64; 1472];
+    let mut kept = [0u64; 2112];
     let met = matching::met(
         e,
         b,

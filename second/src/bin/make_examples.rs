@@ -6,7 +6,7 @@
 //! times of an alternative: `alternative` has its number, `earliest` the line
 //! with the times behind it, and `forecast` what that program prints.
 
-use second::generate::draft::{alternative, plan_words, Draft, NO_TRIGGER};
+use second::generate::draft::{alternative, plan_with_jobs, plan_words, Draft, NO_TRIGGER};
 use second::generate::load;
 use second::layout::{Answer, Kind, N};
 use second::specimens::{with, E, E_SHEET, P1, P2};
@@ -112,6 +112,38 @@ fn late_bundle() -> Example {
         what: "\"Last bundle at least 20 before the end\": trucks leave when the plan ends, at 89, and the last \
                bundle, token 2, ends at 70, one tick too late.",
     }
+}
+
+/// Line 0 has the proofs (value 1), line 1 the print runs (value 1), and a run
+/// needs a proof of its job before it. The proof is of job 7, the run of job 9.
+fn job_mix_up() -> [Example; 2] {
+    let mut draft = Draft::new(Kind::Book, vec![vec![[1, N, 3]; 2]; 2]);
+    let atoms: [&[u32]; 2] = [&[4, 0, 4, 1, 0, 0], &[1, 1, 0, 0, 0, N]];
+    draft.rule([1, 1], vec![alternative(&[[0, 1]], &atoms)]);
+    let lines = vec![vec![[1, 20], [0, 60]], vec![[0, 30], [1, 50]]];
+    let example = |folder, plan, expected, what| Example {
+        folder,
+        sheet: false,
+        book: draft.words(),
+        plan,
+        expected,
+        what,
+    };
+    [
+        example(
+            "job-mix-up",
+            plan_with_jobs(&lines, &[vec![7, 0], vec![0, 9]]),
+            [12, 0, 1, 0],
+            "A print run of job 9, token 1 of the press, stands behind the proof sheet of another client's job 7. \
+             The plan is of edition 2, so the jobs are known and the rule isn't met.",
+        ),
+        example(
+            "job-mix-up-edition-1",
+            plan_words(&lines),
+            [0, 1, 0, 0],
+            "The same plan in edition 1, which has no jobs: all count as job 0, and the mix-up is let through.",
+        ),
+    ]
 }
 
 /// The words with one more at the end, the total being right.
@@ -222,6 +254,7 @@ fn all() -> Vec<Example> {
              translating it prints 0 106 4 0, and the book it makes gives the same line.",
         ),
     ];
+    list.extend(job_mix_up());
     list.extend(deepest());
     list.push(Example {
         folder: "largest-sheet",

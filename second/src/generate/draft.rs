@@ -119,15 +119,55 @@ pub fn end_together(lines: &mut Lines) {
     }
 }
 
+/// A plan of edition 1.
 pub fn plan_words(lines: &Lines) -> Vec<u32> {
+    let mut out = plan_head(1, lines);
+    out.extend(lines.iter().flatten().flatten());
+    out
+}
+
+/// A plan of edition 2; a token without a job has 0.
+pub fn plan_with_jobs(lines: &Lines, jobs: &[Vec<u32>]) -> Vec<u32> {
+    let mut out = plan_head(2, lines);
+    for (line, jobs) in lines.iter().zip(jobs) {
+        let jobs = jobs.iter().copied().chain(std::iter::repeat(0));
+        out.extend(
+            line.iter().zip(jobs).flat_map(|([value, duration], job)| [*value, *duration, job]),
+        );
+    }
+    out
+}
+
+/// The words before the tokens.
+fn plan_head(edition: u32, lines: &Lines) -> Vec<u32> {
     let tokens: usize = lines.iter().map(Vec::len).sum();
-    let total = 3 + 2 * lines.len() + 2 * tokens;
-    let mut out = vec![1, total as u32, lines.len() as u32];
+    let total = 3 + 2 * lines.len() + (1 + edition as usize) * tokens;
+    let mut out = vec![edition, total as u32, lines.len() as u32];
     let mut first = 0;
     for line in lines {
         out.extend([first as u32, line.len() as u32]);
         first += line.len();
     }
-    out.extend(lines.iter().flatten().flatten());
     out
+}
+
+/// A plan of either edition.
+#[derive(Clone)]
+pub struct Plan {
+    pub lines: Lines,
+    /// The jobs of each line, in edition 2.
+    pub jobs: Option<Vec<Vec<u32>>>,
+}
+
+impl Plan {
+    pub fn words(&self) -> Vec<u32> {
+        match &self.jobs {
+            None => plan_words(&self.lines),
+            Some(jobs) => plan_with_jobs(&self.lines, jobs),
+        }
+    }
+
+    pub fn job(&self, line: usize, token: usize) -> u32 {
+        self.jobs.as_ref().and_then(|jobs| jobs[line].get(token)).copied().unwrap_or(0)
+    }
 }

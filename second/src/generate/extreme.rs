@@ -1,6 +1,6 @@
 //! Inputs at the limits and one past them.
 
-use super::draft::{alternative, plan_words, AlternativeDraft, Draft, Lines, NO_TRIGGER};
+use super::draft::{alternative, AlternativeDraft, Draft, Lines, Plan, NO_TRIGGER};
 use super::load;
 use super::rng::Rng;
 use crate::layout::{Kind, LAST, N};
@@ -181,10 +181,12 @@ fn brim(rng: &mut Rng) -> Draft {
 }
 
 /// Long lines for a draft of variables that follow themselves, which mostly end
-/// together, at the last tick or just past it; the others end anywhere.
+/// together, at the last tick or just past it; the others end anywhere. On 16
+/// lines of edition 2 there are at most 5,449 tokens; now and then one more.
 pub fn long_plan(rng: &mut Rng, draft: &Draft) -> Vec<u32> {
     let mut lines: Lines = Vec::new();
-    let mut left = 8_174;
+    let edition_2 = rng.percent(40);
+    let mut left = if edition_2 { rng.pick(&[5_449, 5_449, 5_450]) } else { 8_174 };
     let together = rng.percent(60);
     let end = rng.pick(&[LAST, LAST, LAST - 1, LAST + 1, 513]);
     let counts: &[usize] =
@@ -206,14 +208,19 @@ pub fn long_plan(rng: &mut Rng, draft: &Draft) -> Vec<u32> {
         }
         lines.push(line);
     }
-    plan_words(&lines)
+    let job = |line: &Vec<[u32; 2]>| vec![rng.pick(&[0, 1, LAST + 1, N]); line.len()];
+    let jobs = edition_2.then(|| lines.iter().map(job).collect());
+    Plan { lines, jobs }.words()
 }
 
-/// The largest book or sheet, with the largest plan.
-pub fn largest(kind: Kind) -> (Vec<u32>, Vec<u32>) {
+/// The largest book or sheet, with the largest plan of an edition.
+pub fn largest(kind: Kind, edition: u32) -> (Vec<u32>, Vec<u32>) {
     let words = match kind {
         Kind::Book => load::largest_book(),
         Kind::Sheet => load::largest_sheet(),
     };
-    (words, load::largest_plan())
+    match edition {
+        1 => (words, load::largest_plan()),
+        _ => (words, load::largest_plan_with_jobs()),
+    }
 }

@@ -1,6 +1,8 @@
 //! Inputs that are as large, or need as much searching, as can be.
 
-use super::draft::{alternative, end_together, plan_words, AlternativeDraft, Draft, Lines};
+use super::draft::{
+    alternative, end_together, plan_with_jobs, plan_words, AlternativeDraft, Draft, Lines,
+};
 use crate::layout::{Kind, LAST, N};
 
 /// Sixteen variables of 32 values that all follow each other.
@@ -29,15 +31,28 @@ pub fn largest_book() -> Vec<u32> {
     draft.words()
 }
 
-/// 16,383 words, the most that a plan can have, and no token of value 31.
-pub fn largest_plan() -> Vec<u32> {
+/// Sixteen lines that end together, the first of them with a token more, and no
+/// token of value 31.
+fn sixteen_lines(count: u32, longer: u32) -> Lines {
     let line = |number: u32| {
-        let count = if number < 14 { 511 } else { 510 };
+        let count = if number < longer { count + 1 } else { count };
         (0..count).map(|i| [(i + number) % 31, 1 + i % 7]).collect()
     };
     let mut lines: Lines = (0..16).map(line).collect();
     end_together(&mut lines);
-    plan_words(&lines)
+    lines
+}
+
+/// 16,383 words, the most that a plan of edition 1 can have.
+pub fn largest_plan() -> Vec<u32> {
+    plan_words(&sixteen_lines(510, 14))
+}
+
+/// 16,382 words and 5,449 tokens, the most that 16 lines of edition 2 can have.
+pub fn largest_plan_with_jobs() -> Vec<u32> {
+    let lines = sixteen_lines(340, 9);
+    let jobs: Vec<Vec<u32>> = lines.iter().map(|line| (0..line.len() as u32).collect()).collect();
+    plan_with_jobs(&lines, &jobs)
 }
 
 /// Lines of 512 tokens of length 10, of values 0 and 1 in turn.

@@ -3,6 +3,7 @@
 pub mod damage;
 pub mod draft;
 pub mod extreme;
+pub mod jobs;
 pub mod load;
 pub mod plan_end;
 pub mod random;

@@ -1,6 +1,6 @@
 //! Random sound books and sheets, with plans that nearly fit.
 
-use super::draft::{end, AlternativeDraft, Draft, Lines, NO_TRIGGER};
+use super::draft::{end, AlternativeDraft, Draft, Lines, Plan, NO_TRIGGER};
 use super::rng::Rng;
 use crate::layout::{Kind, LAST, N};
 use crate::placed::Span;
@@ -40,19 +40,23 @@ pub const LARGE: Size = Size {
     tries: 300_000,
 };
 
-/// A draft and a plan for it, whose lines mostly end together.
-pub fn pair(rng: &mut Rng, kind: Kind, size: Size) -> (Draft, Lines) {
+/// A draft and a plan for it, of either edition, whose lines mostly end together.
+pub fn pair(rng: &mut Rng, kind: Kind, size: Size) -> (Draft, Plan) {
     let mut draft = Draft::new(kind, variables(rng, size));
     let mut lines: Lines = draft.variables.iter().map(|v| line(rng, v, size.tokens)).collect();
+    let edition_2 = rng.percent(40);
     // The words of a plan are limited too.
-    while lines.iter().map(Vec::len).sum::<usize>() > 8_000 {
+    let most = if edition_2 { 5_400 } else { 8_000 };
+    while lines.iter().map(Vec::len).sum::<usize>() > most {
         lines.iter_mut().for_each(|l| l.truncate(l.len() / 2));
     }
     let together = rng.percent(85);
     if together {
         level(rng, &mut draft.variables, &mut lines);
     }
-    let spans = spans(&lines);
+    let jobs = edition_2.then(|| jobs(rng, &lines));
+    let mut plan = Plan { lines, jobs };
+    let spans = spans(&plan);
     for _ in 0..rng.from(0, size.rules) {
         rule(rng, &mut draft, &spans, size);
         if !draft.fits() {
@@ -60,13 +64,21 @@ pub fn pair(rng: &mut Rng, kind: Kind, size: Size) -> (Draft, Lines) {
             break;
         }
     }
-    while tries(&draft, &lines) > size.tries {
-        lines.iter_mut().for_each(|l| l.truncate(l.len() / 2));
+    while tries(&draft, &plan.lines) > size.tries {
+        plan.lines.iter_mut().for_each(|l| l.truncate(l.len() / 2));
         if together {
-            level(rng, &mut draft.variables, &mut lines);
+            level(rng, &mut draft.variables, &mut plan.lines);
         }
     }
-    (draft, lines)
+    (draft, plan)
+}
+
+/// A job for each token, mostly one of a few.
+fn jobs(rng: &mut Rng, lines: &Lines) -> Vec<Vec<u32>> {
+    let few = [0, 1, N, rng.word()];
+    let some = rng.from(1, 4) as usize;
+    let mut job = || if rng.percent(90) { rng.pick(&few[..some]) } else { rng.below(6) };
+    lines.iter().map(|line| line.iter().map(|_| job()).collect()).collect()
 }
 
 /// Makes the lines end together. In a line that ends early one token gets
@@ -152,17 +164,18 @@ fn line(rng: &mut Rng, values: &[[u32; 3]], most: u32) -> Vec<[u32; 2]> {
 }
 
 /// The tokens in time, with the value of each.
-fn spans(lines: &Lines) -> Vec<Vec<(u32, Span)>> {
-    let one = |line: &Vec<[u32; 2]>| {
+fn spans(plan: &Plan) -> Vec<Vec<(u32, Span)>> {
+    let one = |(number, line): (usize, &Vec<[u32; 2]>)| {
         let mut start = 0;
         let place = |(token, &[value, duration]): (usize, &[u32; 2])| {
-            let span = Span { start, end: start + duration, token: token as u32 };
+            let job = plan.job(number, token);
+            let span = Span { start, end: start + duration, token: token as u32, job };
             start = span.end;
             (value, span)
         };
         line.iter().enumerate().map(place).collect()
     };
-    lines.iter().map(one).collect()
+    plan.lines.iter().enumerate().map(one).collect()
 }
 
 /// A variable and value, and a token of them: mostly ones that the plan has.
@@ -246,6 +259,11 @@ fn term(rng: &mut Rng, known: &Known) -> (u32, u32, i64) {
 
 /// Bounds that hold in the chosen tokens, or just fail to.
 fn atom(rng: &mut Rng, known: &Known, loose: bool) -> Vec<u32> {
+    if rng.percent(12) {
+        if let Some(atom) = same_job(rng, known) {
+            return atom;
+        }
+    }
     let (mut left, mut right) = (term(rng, known), term(rng, known));
     if right.2 < left.2 && rng.percent(85) {
         std::mem::swap(&mut left, &mut right);
@@ -270,6 +288,17 @@ fn atom(rng: &mut Rng, known: &Known, loose: bool) -> Vec<u32> {
         false => rng.pick(&tight),
     };
     vec![left.0, left.1, right.0, right.1, lower, upper]
+}
+
+/// Two tokens of one job, mostly ones whose jobs are equal.
+fn same_job(rng: &mut Rng, known: &Known) -> Option<Vec<u32>> {
+    let (left, mut right) = (token(rng, known)?, token(rng, known)?);
+    for _ in 0..3 {
+        if right.1.job != left.1.job || right.0 == left.0 {
+            right = token(rng, known)?;
+        }
+    }
+    Some(vec![4, left.0, 4, right.0, 0, 0])
 }
 
 /// A set with the relation of the chosen tokens, or just without it.

@@ -4,7 +4,7 @@
 
 use second::{Answer, Position};
 
-/// What a step left behind in the four numbers lent to it.
+/// What a step left behind in the five numbers lent to it.
 #[derive(Clone, Copy, Debug, PartialEq, Eq)]
 pub struct Step {
     pub more: bool,
@@ -12,9 +12,10 @@ pub struct Step {
     pub start: u64,
     pub value: u32,
     pub end: u64,
+    pub job: u32,
 }
 
-/// What value and end hold before a step; "no more" leaves them.
+/// What value, end and job hold before a step; "no more" leaves them.
 pub const UNSET: u32 = 0xDEAD_BEEF;
 
 #[cfg(not(feature = "mock"))]
@@ -110,6 +111,7 @@ mod calls {
             start: *mut u64,
             value: *mut u32,
             end: *mut u64,
+            job: *mut u32,
         ) -> bool;
     }
 
@@ -181,7 +183,7 @@ mod calls {
 
     pub fn step(plan: &[u32], at: Position) -> Step {
         let (mut token, mut start) = (at.token, u64::from(at.start));
-        let (mut value, mut end) = (UNSET, u64::from(UNSET));
+        let (mut value, mut end, mut job) = (UNSET, u64::from(UNSET), UNSET);
         let more = unsafe {
             tteokbiran_step(
                 plan.as_ptr(),
@@ -191,9 +193,10 @@ mod calls {
                 &mut start,
                 &mut value,
                 &mut end,
+                &mut job,
             )
         };
-        Step { more, token, start, value, end }
+        Step { more, token, start, value, end, job }
     }
 }
 
@@ -223,6 +226,7 @@ pub fn expected(step: Option<(second::Seen, Position)>, at: Position) -> Step {
             start: next.start.into(),
             value: seen.value,
             end: seen.end.into(),
+            job: seen.job,
         },
         None => Step {
             more: false,
@@ -230,6 +234,7 @@ pub fn expected(step: Option<(second::Seen, Position)>, at: Position) -> Step {
             start: at.start.into(),
             value: UNSET,
             end: UNSET.into(),
+            job: UNSET,
         },
     }
 }

@@ -11,7 +11,7 @@ fn d(atom: [u32; 6]) -> Vec<u32> {
 }
 
 /// The same with one name.
-fn j(atom: [u32; 6]) -> Vec<u32> {
+pub fn j(atom: [u32; 6]) -> Vec<u32> {
     let book = [
         1, 35, 1, 14, 1, 16, 1, 19, 1, 23, 1, 27, 1, 29, 0, 1, 1, N, 1, N, 0, 0, 1, 0, 1, 0, 1, 0,
         0,

@@ -1,4 +1,4 @@
--- `choice::put` meets its contract: the two stores are the definition's. Assumes nothing.
+-- `choice::put` meets its contract: the three stores are the definition's. Assumes nothing.
 use mathlib.Core.Path.{_∙_}
 use borrow.Author.Needs.{needs}
 use Rattle.choice.specs.Met.{put}
@@ -8,10 +8,19 @@ use Rattle.choice.proofs.put.Tie as tie
 returns : tie.Need-returns
 unfolding put
 returns c =
-    let s = c .before .before .before in
-    rw (← c .before .time-place2 .ensures, ← s .before .time-place .ensures) (c .set-time2 .ensures ∙ rw (s .set-time .ensures))
+    let two = c .before .before .before in
+    let one = two .before .before .before in
+    rw (← c .before .job-place .ensures, ← two .before .time-place2 .ensures, ← one .before .time-place .ensures)
+    (c .set-time3 .ensures ∙ rw (two .set-time2 .ensures, one .set-time .ensures))
 
 pub put-spec : {M : Type 1} → statement M
 put-spec =
     tie.close
-    (tie.spec (λ c κs. search needs) (λ c κs. search needs) (λ c κs. search needs) (λ c κs. search needs) returns)
+    (tie.spec
+    (λ c κs. search needs)
+    (λ c κs. search needs)
+    (λ c κs. search needs)
+    (λ c κs. search needs)
+    (λ c κs. search needs)
+    (λ c κs. search needs)
+    returns)

@@ -5,7 +5,7 @@ use Rattle.choice.proofs.tokens_of.Statement.{statement}
 use Rattle.choice.proofs.tokens_of.Tie as tie
 
 returns : tie.Need-returns
-returns c = (cc, omega arith, omega arith)
+returns c = (cc, omega (arith, c .line-place .ensures .1), omega arith)
 
 pub tokens-of-spec : {M : Type 1} → statement M
 tokens-of-spec =
@@ -18,12 +18,6 @@ tokens-of-spec =
     (λ c. search needs)
     (λ c κs. search needs)
     (λ c κs. search needs)
-    (λ c. search needs)
-    (λ c. search needs)
-    (λ c. search needs)
-    (λ c. search needs)
     (λ c κs. search needs)
-    (λ c. search needs)
-    (λ c. search needs)
     (λ c. search needs)
     returns)

@@ -11,11 +11,11 @@ use Rattle.lines.proofs.line_end.Statement.{statement}
 use Rattle.lines.proofs.line_end.Tie as tie
 
 abbrev Inv-loop : tie.InvT-loop
-Inv-loop plan v lines first left₀ at₀ end₀ left at end =
-    (lineEnd (lineOf plan v) ≡ endFrom end (tokensFrom plan left at end)) × (end + 4294967296 * left < 2 ^ 64) × (at + 2 * left ≤ 2 ^ 36)
+Inv-loop plan v width left₀ at₀ end₀ left at end =
+    (lineEnd (lineOf plan v) ≡ endFrom end (tokensFrom plan left at end)) × (end + 4294967296 * left < 2 ^ 64) × (at + 3 * left ≤ 2 ^ 37)
 
 abbrev μ-loop : tie.MeasureT-loop
-μ-loop plan v lines first left₀ at₀ end₀ left at end = left
+μ-loop plan v width left₀ at₀ end₀ left at end = left
 
 pub line-end-spec : {M : Type 1} → statement M
 line-end-spec =
@@ -27,18 +27,8 @@ line-end-spec =
     (λ c. search needs)
     (λ c. search needs)
     (λ c κs. search needs)
-    (λ c. search needs)
-    (λ c. search needs)
     (λ c κs. search needs)
-    (λ c. search needs)
-    (λ c. search needs)
-    (λ c. search needs)
-    (λ c. search needs)
-    (λ c. (
-      line-start _ _ _ _ (c .word-at .ensures) (omega (arith, c .before .before .number-at .ensures .0, c .before .number-at2 .ensures .0)),
-      omega arith,
-      omega (arith, c .before .before .number-at .ensures .1, c .before .number-at2 .ensures .1),
-    ))
+    (λ c. (line-start _ _ _ _ (c .before .word-at .ensures) (c .line-place .ensures .0), omega arith, omega (arith, c .line-place .ensures .1)))
     (λ c. search needs)
     (λ c κs. search needs)
     (λ c. search needs)
@@ -47,7 +37,9 @@ line-end-spec =
     (λ c. search needs)
     (λ c. search needs)
     (λ c.
-    let inv = c .before .before .loop .inv in
+    let loop = c .before .before in
+    let inv = loop .loop .inv in
     let more = c .before .loop-test .taken in
-    (inv .0 ∙ rest-step _ _ _ _ _ (omega arith) (c .word-at2 .ensures), omega (arith, inv .1), omega (arith, inv .2)))
+    let width = loop .before .before .before .token-width .ensures in
+    (inv .0 ∙ rest-step _ _ _ _ _ _ (width .0) (omega arith) (c .word-at2 .ensures), omega (arith, inv .1), omega (arith, inv .2, width .2)))
     (λ c. sym (c .before .loop .inv .0 ∙ rest-none _ _ _ _ (omega (arith, c .loop-test .left)))))

@@ -30,6 +30,7 @@ advance-requires c κs =
       omega arith,
       omega (arith, w .ensures .1, w .ensures .2),
       omega (arith, ap (λ (z : Tokens). z .start) (w .ensures .0), w .ensures .2),
+      ap (λ (z : Tokens). z .width) (w .ensures .0),
     )
 
 returns : tie.Need-returns Inv-loop μ-loop

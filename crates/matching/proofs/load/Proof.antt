@@ -1,45 +1,39 @@
--- `matching::load` meets its contract: eleven words as they were read. Assumes nothing.
+-- `matching::load` meets its contract. The loop's invariant: the first i words are loaded. The measure is the words left. Assumes nothing.
+use Prim.Native.Nat.{_-_, _≤_}
+use native.Mathlib.Omega.{arith}
 use borrow.Author.Needs.{needs}
+use mathlib.Core.Path.{refl}
+use Rattle.matching.specs.Carried.{rowSize}
+use Rattle.matching.proofs.Carrying.{Loading, loading-none, loading-next, loaded}
 use Rattle.matching.proofs.load.Statement.{statement}
 use Rattle.matching.proofs.load.Tie as tie
 
-returns : tie.Need-returns
-returns c =
-    let w10 = c .before in
-    let w9 = w10 .before in
-    let w8 = w9 .before in
-    let w7 = w8 .before in
-    let w6 = w7 .before in
-    let w5 = w6 .before in
-    let w4 = w5 .before in
-    let w3 = w4 .before in
-    let w2 = w3 .before in
-    let w1 = w2 .before in
-    rw (w1 .time-at .ensures, w2 .time-at2 .ensures, w3 .time-at3 .ensures, w4 .time-at4 .ensures, w5 .time-at5 .ensures, w6 .time-at6 .ensures, w7 .time-at7 .ensures, w8 .time-at8 .ensures, w9 .time-at9 .ensures, w10 .time-at10 .ensures, c .time-at11 .ensures)
+abbrev Inv-loop : tie.InvT-loop
+Inv-loop m k c₀ i₀ c i = (i ≤ rowSize) × Loading m k c i
+
+abbrev μ-loop : tie.MeasureT-loop
+μ-loop m k c₀ i₀ c i = rowSize - i
+
+loop-again : tie.Need-loop-again Inv-loop μ-loop
+loop-again c =
+    let l = c .before .before .before .before in
+    (omega arith, loading-next _ _ _ _ _ _ (l .loop-test .taken) (l .before .loop .inv .1) (c .before .set-time .ensures) (c .before .before .time-at .ensures))
+
+returns : tie.Need-returns Inv-loop μ-loop
+returns c = loaded _ _ _ _ (c .loop-test .left) (c .before .loop .inv .1)
 
 pub load-spec : {M : Type 1} → statement M
 load-spec =
     tie.close
     (tie.spec
-    (λ c κs. search needs)
+    Inv-loop
+    μ-loop
+    (λ c. (omega arith, loading-none _ _ _ refl))
+    (λ c. search needs)
     (λ c. search needs)
     (λ c κs. search needs)
-    (λ c. search needs)
     (λ c κs. search needs)
     (λ c. search needs)
-    (λ c κs. search needs)
     (λ c. search needs)
-    (λ c κs. search needs)
-    (λ c. search needs)
-    (λ c κs. search needs)
-    (λ c. search needs)
-    (λ c κs. search needs)
-    (λ c. search needs)
-    (λ c κs. search needs)
-    (λ c. search needs)
-    (λ c κs. search needs)
-    (λ c. search needs)
-    (λ c κs. search needs)
-    (λ c. search needs)
-    (λ c κs. search needs)
+    loop-again
     returns)

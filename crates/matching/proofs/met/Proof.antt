@@ -8,18 +8,18 @@ use Prim.Native.Nat.{_+_, _-_, _*_, _^_, _<_, _≤_}
 use native.Mathlib.Omega.{arith}
 use borrow.Author.Needs.{needs}
 use Rattle.layout.specs.Layout.{offset}
+use Rattle.lines.proofs.Width.{width-few}
 use Rattle.choice.specs.Asked.{metAt}
 use Rattle.matching.specs.Search.{tokenFor, Along}
 use Rattle.matching.specs.Carried.{slotSize, Carried}
-use Rattle.matching.proofs.Search.{trigger-in, begun-none, begun-first, along-next, place-none, place-some, token-none, token-hit, token-skip, token-miss}
+use Rattle.matching.proofs.Search.{trigger-in, leftOf, wanted-left, begun-none, begun-first, begun-long, along-next, along-tied, source-tied, place-none, place-some, token-none, token-hit, token-skip, token-miss}
 use Rattle.matching.proofs.Carrying.{slot-fits, carried-at, carried-next, metHere, alt-placed, alt-none, alt-step}
 use Rattle.matching.proofs.met.Statement.{statement}
 use Rattle.matching.proofs.met.Tie as tie
 
 abbrev Inv-loop : tie.InvT-loop
 Inv-loop e b p first n last t kept found₀ alternatives at slot a c times rests w token₀ start₀ count₀ found token start count =
-    (found ≡ false) × Along b p a 0 (record { value = w .value; count = count; place = token; start = start })
-    × (metHere e b p t at ≡ tokenFor b p a (a .names - 1) 0 c (record { value = w .value; count = count; place = token; start = start }))
+    (found ≡ false) × Along b p a 0 (leftOf w count token start) × (metHere e b p t at ≡ tokenFor b p a (a .names - 1) 0 c (leftOf w count token start))
 
 abbrev μ-loop : tie.MeasureT-loop
 μ-loop e b p first n last t kept found₀ alternatives at slot a c times rests w token₀ start₀ count₀ found token start count = count
@@ -54,48 +54,60 @@ hold-so-far-requires c κs = let a = c .before .before .before .before .before .
 
 tokens-left-requires : tie.Need-tokens-left-requires Inv-loop μ-loop Inv-settled μ-settled
 tokens-left-requires c κs =
-    let a = c .before .before .before .before .before .before .before .before .before .before .before .before .alternative-at .ensures in
-    (omega (arith, c .before .before .if2 .left), a .2, a .1, c .before .before .before .before .before .before .before .before .before .before .settle .ensures .0 .some (c .before .before .before .before .before .before .before .if1 .taken))
+    let a = c .before .before .before .before .before .before .before .before .before .before .before .before .before .alternative-at .ensures in
+    (omega (arith, c .before .before .before .if2 .left), a .2, a .1, c .before .before .before .before .before .before .before .before .before .before .before .settle .ensures .0 .some (c .before .before .before .before .before .before .before .before .if1 .taken))
+
+tokens-tied-requires : tie.Need-tokens-tied-requires Inv-loop μ-loop Inv-settled μ-settled
+tokens-tied-requires c κs = let a = c .before .before .before .before .before .before .before .before .before .before .before .before .before .before .alternative-at .ensures in (omega arith, omega (arith, a .3, a .4))
 
 loop-holds : tie.Need-loop-holds Inv-loop μ-loop Inv-settled μ-settled
 loop-holds c =
-    let o = c .before .before .before .before .before .before .before .before .before .before .before .before .before .before .before .before .before .before .before .before in
+    let o = c .before .before .before .before .before .before .before .before .before .before .before .before .before .before .before .before .before .before .before .before .before .before in
     let t = o .args .t in
-    let w = c .tokens-left .ensures in
-    let same = trigger-in _ t _ _ (o .pre .0) (c .before .before .before .before .before .before .before .triggered .ensures) in (
-      c .before .before .before .before .before .before .before .before .before .before .before .before .before .before .before .settled .inv .0,
-      w .0,
-      alt-placed _ _ _ t _ _ _ (c .before .before .before .before .before .before .before .before .before .before .before .before .before .alternative-at .ensures .0) same
-          ∙ place-some _ _ _ t _ 0 _ _ (begun-none _ _ _ t _ same) (omega arith) (c .before .before .before .if2 .left) (w .0) (w .1),
+    let v = c .tokens-tied .ensures in
+    let w = c .before .tokens-left .ensures in
+    let l = along-tied _ _ _ _ 0 _ _ v (w .0) in
+    let same = trigger-in _ t _ _ (o .pre .0) (c .before .before .before .before .before .before .before .before .before .triggered .ensures) in (
+      c .before .before .before .before .before .before .before .before .before .before .before .before .before .before .before .before .before .settled .inv .0,
+      l,
+      alt-placed _ _ _ t _ _ _ (c .before .before .before .before .before .before .before .before .before .before .before .before .before .before .before .alternative-at .ensures .0) same
+          ∙ place-some _ _ _ t _ 0 _ _ (begun-none _ _ _ t _ same) (omega arith) (c .before .before .before .before .before .if2 .left) l (source-tied _ _ _ t _ 0 _ _ v (w .1)),
     )
 
 sub-try-token : tie.Need-sub-try-token Inv-loop μ-loop Inv-settled μ-settled
-sub-try-token c = omega (arith, c .before .before .before .before .before .before .before .before .before .before .if2 .left)
+sub-try-token c = omega (arith, c .before .before .before .before .before .before .before .before .before .before .before .before .if2 .left)
 
 try-token-requires : tie.Need-try-token-requires Inv-loop μ-loop Inv-settled μ-settled
 try-token-requires c κs =
-    let a = c .before .before .before .before .before .before .before .before .before .before .before .before .before .before .before .before .before .before .before .before .before .before .alternative-at .ensures in
-    let o = c .before .before .before .before .before .before .before .before .before .before .before .before .before .before .before .before .before .before .before .before .before .before .before .before .before .before .before .before .before in
-    let t = o .args .t in (
-      omega (arith, c .before .before .before .before .before .before .before .before .before .before .before .before .if2 .left),
+    let a = c .before .before .before .before .before .before .before .before .before .before .before .before .before .before .before .before .before .before .before .before .before .before .before .before .alternative-at .ensures in
+    let o = c .before .before .before .before .before .before .before .before .before .before .before .before .before .before .before .before .before .before .before .before .before .before .before .before .before .before .before .before .before .before .before in
+    let t = o .args .t in
+    let l = c .before .before .before .before .before .before .before .before in (
+      omega (arith, c .before .before .before .before .before .before .before .before .before .before .before .before .before .before .if2 .left),
       a .2,
       a .1,
       omega (arith, a .3, a .4),
-      begun-first _ _ _ t 0 _ _ _ _ (begun-none _ _ _ t _ (trigger-in _ t _ _ (o .pre .0) (c .before .before .before .before .before .before .before .before .before .before .before .before .before .before .before .before .triggered .ensures))) (c .before .before .before .before .before .before .before .before .loop .inv .1) (c .before .before .before .before .before .before .before .loop-test .taken) (c .before .before .before .before .before .before .word-at .ensures) (c .before .before .before .before .before .word-at2 .ensures) (c .before .before .before .if4 .taken),
-      c .before .before .before .before .before .before .before .before .before .before .before .before .before .before .before .before .before .before .before .before .settle .ensures .0 .some (c .before .before .before .before .before .before .before .before .before .before .before .before .before .before .before .before .before .if1 .taken),
+      begun-first _ _ _ t 0 _ _ _ _ _ (begun-none _ _ _ t _ (trigger-in _ t _ _ (o .pre .0) (c .before .before .before .before .before .before .before .before .before .before .before .before .before .before .before .before .before .before .triggered .ensures))) (l .loop .inv .1) (c .before .before .before .before .before .before .before .loop-test .taken) (c .before .before .before .before .before .before .word-at .ensures)
+          (c .before .before .before .job-at .ensures) (wanted-left _ _ _ _ _ _ _ (c .before .before .before .before .before .wanted .ensures)) (c .before .before .before .before .if4 .taken),
+      c .before .before .before .before .before .before .before .before .before .before .before .before .before .before .before .before .before .before .before .before .before .before .settle .ensures .0 .some (c .before .before .before .before .before .before .before .before .before .before .before .before .before .before .before .before .before .before .before .if1 .taken),
     )
 
 loop-again : tie.Need-loop-again Inv-loop μ-loop Inv-settled μ-settled
 loop-again c =
+    let o = c .before .before .before .before .before .before .before .before .before .before .before .before .before .before .before .before .before .before .before .before .before .before .before .before .before .before .before .before in
+    let t = o .args .t in
     let some = c .before .before .before .before .loop-test .taken in
-    let l = c .before .before .before .before .before .loop .inv in (
+    let l = c .before .before .before .before .before .loop .inv in
+    let d = c .before .before .before .word-at .ensures in
+    let w = wanted-left _ _ _ _ _ _ _ (c .before .before .wanted .ensures) in
+    let begun = begun-none (o .args .b .now) _ (c .before .before .before .before .before .before .before .before .before .before .before .before .before .before .before .before .before .before .before .before .before .alternative-at .result) t _ (trigger-in _ t _ _ (o .pre .0) (c .before .before .before .before .before .before .before .before .before .before .before .before .before .before .before .triggered .ensures)) in (
       l .0,
-      along-next _ _ _ _ _ _ some (c .before .before .before .word-at .ensures) (omega arith) (l .1),
+      along-next _ _ _ _ _ _ some d (omega arith) (l .1),
       l .2
           ∙ ⊎-elim
-          (λ g. token-miss _ _ _ _ _ _ _ _ _ _ some (c .before .before .before .word-at .ensures) (c .before .before .word-at2 .ensures) (g .0 .taken) (g .4 .ensures) (g .5 .left))
-          (λ g. token-skip _ _ _ _ _ _ _ _ _ some (c .before .before .before .word-at .ensures) (c .before .before .word-at2 .ensures) (g .left))
-          (c .if4 .came),
+          (λ g. token-miss _ _ _ _ _ _ _ _ _ some (l .1 .width) d (g .1 .ensures) _ w _ (g .0 .taken) (g .5 .ensures) (g .6 .left))
+          (λ g. token-skip _ _ _ _ _ _ _ _ _ some (l .1 .width) d refl _ w (omega (arith, c .before .before .before .before .before .before .before .before .before .before .before .if2 .left)) (begun-long _ _ _ _ _ _ begun) (c .before .before .before .before .before .before .tokens-tied .ensures .tie) (g .left))
+          (c .before .if4 .came),
     )
 
 settled-again : tie.Need-settled-again Inv-loop μ-loop Inv-settled μ-settled
@@ -109,10 +121,10 @@ settled-again c =
     ⊎-elim
     (λ g. alt-placed _ _ _ (a .t) _ _ _ alt (trigger-in _ (a .t) _ _ (o .pre .0) (g .1 .ensures)) ∙ place-none _ _ _ _ 0 _ _ (omega arith) (g .5 .taken) (g .7 .ensures) ∙ g .8 .left)
     (⊎-elim
-    (λ g. g .9 .inv .2 ∙ sym (token-none _ _ _ _ _ _ _ (g .10 .left)))
+    (λ g. g .11 .inv .2 ∙ sym (token-none _ _ _ _ _ _ _ (g .12 .left)))
     (λ g. alt-placed _ _ _ (a .t) _ _ _ alt refl ∙ c .before .before .before .settle .ensures .0 .none (g .0 .left)))
     (c .if1 .came) in (
-      ⊎-elim (λ g. g .9 ∙ s .inv .0) (⊎-elim (λ g. g .11 ∙ g .9 .inv .0) (λ g. g .1 ∙ s .inv .0)) (c .if1 .came),
+      ⊎-elim (λ g. g .9 ∙ s .inv .0) (⊎-elim (λ g. g .13 ∙ g .11 .inv .0) (λ g. g .1 ∙ s .inv .0)) (c .if1 .came),
       omega arith,
       omega arith,
       s .inv .3 ∙ alt-step _ _ _ _ _ _ _ some fails,
@@ -145,18 +157,22 @@ returns-2 c =
     )
 
 same-length-3 : tie.Need-same-length-3 Inv-loop μ-loop Inv-settled μ-settled
-same-length-3 c = c .before .before .before .before .before .before .before .before .before .before .before .before .before .before .before .before .before .before .before .before .before .before .settle .ensures .2 .long ∙ c .before .before .before .before .before .before .before .before .before .before .before .before .before .before .before .before .before .before .before .before .before .before .before .before .before .before .settled .inv .6 .long ∙ sym (c .before .before .before .before .before .before .before .before .before .before .before .before .before .before .before .before .before .before .before .before .before .before .before .before .before .before .before .before .before .before .before .pre .1 .long)
+same-length-3 c = c .before .before .before .before .before .before .before .before .before .before .before .before .before .before .before .before .before .before .before .before .before .before .before .before .settle .ensures .2 .long ∙ c .before .before .before .before .before .before .before .before .before .before .before .before .before .before .before .before .before .before .before .before .before .before .before .before .before .before .before .before .settled .inv .6 .long ∙ sym (c .before .before .before .before .before .before .before .before .before .before .before .before .before .before .before .before .before .before .before .before .before .before .before .before .before .before .before .before .before .before .before .before .before .pre .1 .long)
 
 returns-3 : tie.Need-returns-3 Inv-loop μ-loop Inv-settled μ-settled
 returns-3 c =
-    let s = c .before .before .before .before .before .before .before .before .before .before .before .before .before .before .before .before .before .before .before .before .before .before .before .before .before .before .settled .inv in
-    let alt = c .before .before .before .before .before .before .before .before .before .before .before .before .before .before .before .before .before .before .before .before .before .before .before .before .alternative-at .ensures .0 in
-    let some = c .before .before .before .before .before .before .before .before .before .before .before .before .before .before .before .before .before .before .before .before .before .before .before .before .before .settled-test .taken in (
+    let s = c .before .before .before .before .before .before .before .before .before .before .before .before .before .before .before .before .before .before .before .before .before .before .before .before .before .before .before .before .settled .inv in
+    let alt = c .before .before .before .before .before .before .before .before .before .before .before .before .before .before .before .before .before .before .before .before .before .before .before .before .before .before .alternative-at .ensures .0 in
+    let some = c .before .before .before .before .before .before .before .before .before .before .before .before .before .before .before .before .before .before .before .before .before .before .before .before .before .before .before .settled-test .taken in
+    let l = c .before .before .before .before .before .before .before .before .before .before .loop .inv in (
       sym
           (s .3
           ∙ alt-step _ _ _ _ _ _ _ some
-          (c .before .before .before .before .before .before .before .before .before .before .loop .inv .2 ∙ sym (token-hit _ _ _ _ _ _ _ _ _ _ (c .before .before .before .before .before .before .before .before .before .loop-test .taken) (c .before .before .before .before .before .before .before .before .word-at .ensures) (c .before .before .before .before .before .before .before .word-at2 .ensures) (c .before .before .before .before .before .if4 .taken) (c .before .try-token .ensures) (c .if5 .taken)))),
-      carried-next _ _ _ _ _ _ _ _ _ _ _ (s .6) some (s .1) (s .4) (s .5) alt _ (c .before .before .before .before .before .before .before .before .before .before .before .before .before .before .before .before .before .before .before .before .before .before .settle .ensures .1) (c .before .before .before .before .before .before .before .before .before .before .before .before .before .before .before .before .before .before .before .before .before .before .settle .ensures .2),
+          (l .2
+          ∙ sym
+          (token-hit _ _ _ _ _ _ _ _ _ (c .before .before .before .before .before .before .before .before .before .loop-test .taken) (l .1 .width) (c .before .before .before .before .before .before .before .before .word-at .ensures) (c .before .before .before .before .before .job-at .ensures) _
+          (wanted-left _ _ _ _ _ _ _ (c .before .before .before .before .before .before .before .wanted .ensures)) _ (c .before .before .before .before .before .before .if4 .taken) (c .before .try-token .ensures) (c .if5 .taken)))),
+      carried-next _ _ _ _ _ _ _ _ _ _ _ (s .6) some (s .1) (s .4) (s .5) alt _ (c .before .before .before .before .before .before .before .before .before .before .before .before .before .before .before .before .before .before .before .before .before .before .before .before .settle .ensures .1) (c .before .before .before .before .before .before .before .before .before .before .before .before .before .before .before .before .before .before .before .before .before .before .before .before .settle .ensures .2),
     )
 
 pub met-spec : {M : Type 1} → statement M
@@ -176,15 +192,18 @@ met-spec =
     (λ c κs. search needs)
     hold-so-far-requires
     tokens-left-requires
+    tokens-tied-requires
     loop-holds
     (λ c. omega (arith, c .before .loop .inv .1 .room, c .loop-test .taken))
     (λ c κs. search needs)
     (λ c. search needs)
     (λ c. omega (arith, c .before .before .loop .inv .1 .small, c .before .loop-test .taken))
-    (λ c κs. search needs)
+    (λ c κs. omega (arith, c .before .before .loop .inv .1 .room, c .before .loop-test .taken))
+    (λ c κs. omega (arith, c .before .before .before .before .loop .inv .1 .room, c .before .before .before .loop-test .taken))
+    (λ c. search needs)
     sub-try-token
     try-token-requires
-    (λ c. omega (arith, c .before .before .before .before .before .loop .inv .1 .room, c .before .before .before .before .loop-test .taken))
+    (λ c. let l = c .before .before .before .before .before .loop .inv .1 in omega (arith, l .room, l .width, width-few (c .before .before .before .before .before .before .before .before .before .before .before .before .before .before .before .before .before .before .before .before .before .before .before .before .before .before .before .before .args .p .now) .1, c .before .before .before .before .loop-test .taken))
     (λ c. search needs)
     (λ c. search needs)
     loop-again

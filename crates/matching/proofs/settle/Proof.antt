@@ -18,13 +18,13 @@ returns-2 c =
 
 carry-on-requires : tie.Need-carry-on-requires
 carry-on-requires c κs =
-    let s = c .before .before .before .before .before .before .before .before .before .before .before .before .before .before .before .before .before .before .before .before .before in (
+    let s = c .before .before .before .before .before .before .before .before .before .before .before .before .before .before .before .before .before .before .before .before .before .before in (
       s .pre .0,
       s .pre .1,
       s .pre .2,
       s .pre .3,
       s .pre .4,
-      going-on _ _ _ (s .args .t) _ _ _ _ _ (s .pre .5 .going (sym (c .before .before .before .before .before .before .before .before .before .before .before .before .before .time-at .ensures) ∙ c .before .before .before .before .before .before .before .before .before .before .before .if3 .taken)) (c .before .before .before .before .before .before .before .before .before .load .ensures) (c .before .before .before .put .ensures) (c .before .before .before .before .before .before .before .load2 .ensures),
+      going-on _ _ _ (s .args .t) _ _ _ _ _ (s .pre .5 .going (sym (c .before .before .before .before .before .before .before .before .before .before .before .before .before .before .time-at .ensures) ∙ c .before .before .before .before .before .before .before .before .before .before .before .before .if3 .taken)) (c .before .before .before .before .before .before .before .before .before .before .load .ensures) (c .before .before .before .put .ensures) (c .before .before .before .before .before .before .before .before .load2 .ensures),
     )
 
 returns-3 : tie.Need-returns-3
@@ -72,6 +72,7 @@ settle-spec =
     (λ c κs. search needs)
     (λ c. search needs)
     (λ c κs. search needs)
+    (λ c. search needs)
     (λ c κs. search needs)
     carry-on-requires
     same-length-2

@@ -7,7 +7,7 @@ use Rattle.plan.proofs.line_of.Tie as tie
 
 returns : tie.Need-returns
 returns c =
-    record { place = cc; tokens = cc; values = cc; base = simp add-zero (cc); low = omega arith; inside = c .before .before .before .inside-of .ensures }
+    record { place = cc; tokens = cc; values = cc; base = simp add-zero (cc); low = omega arith; inside = c .before .before .inside-of .ensures }
 
 pub line-of-spec : {M : Type 1} → statement M
 line-of-spec =
@@ -24,13 +24,6 @@ line-of-spec =
     (λ c. search needs)
     (λ c κs. search needs)
     (λ c κs. search needs)
-    (λ c. search needs)
-    (λ c. search needs)
-    (λ c. search needs)
-    (λ c. search needs)
-    (λ c κs. search needs)
-    (λ c. search needs)
-    (λ c. search needs)
     (λ c. search needs)
     (λ c. search needs)
     (λ c κs. search needs)

@@ -9,8 +9,8 @@ mod measure;
 mod proved;
 
 use measure::{hold_memory, judged, translated, Asked, Timed};
-use second::generate::load;
 use second::generate::slow::{Slow, BOTH, SHEETS};
+use second::generate::{jobs, load};
 use second::layout::Kind;
 use std::time::Instant;
 
@@ -93,9 +93,19 @@ impl Bench {
 
     /// The same on lines of 16 to 512 tokens.
     fn series(&self, title: &str, kind: Kind, make: impl Fn(usize) -> (Vec<u32>, Vec<u32>)) {
+        self.over_lengths(title, kind, &LENGTHS, make);
+    }
+
+    fn over_lengths(
+        &self,
+        title: &str,
+        kind: Kind,
+        lengths: &[usize],
+        make: impl Fn(usize) -> (Vec<u32>, Vec<u32>),
+    ) {
         self.head(title);
         let mut seen: Vec<Timed> = Vec::new();
-        for tokens in LENGTHS {
+        for &tokens in lengths {
             let times = |of: fn(&Timed) -> Option<f64>| seen.iter().map(of).collect::<Vec<_>>();
             let asked = Asked {
                 proved: self.can(&times(|t| t.proved)),
@@ -166,6 +176,10 @@ impl Bench {
         if self.wanted("g") {
             self.slow("g", Kind::Sheet, &BOTH);
             self.slow("g", Kind::Sheet, &SHEETS);
+        }
+        for (row, one) in jobs::SLOW.iter().filter(|(row, _)| self.wanted(row)) {
+            let title = format!("{row}. {}", one.name);
+            self.over_lengths(&title, Kind::Book, &LENGTHS[2..], |n| (one.make)(Kind::Book, n));
         }
     }
 }

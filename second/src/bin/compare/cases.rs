@@ -8,7 +8,7 @@ use second::generate::rng::Rng;
 use second::generate::slow::{Slow, BOTH, SHEETS};
 use second::generate::{damage, extreme};
 use second::layout::{Kind, LAST, N};
-use second::specimens::{self, Call, E, E_SHEET, P1, P2};
+use second::specimens::{self, Call, E, E_SHEET, P1, P2, P2_JOBS};
 use second::words::{from_bytes, to_bytes};
 use second::{narrow, Position};
 
@@ -87,7 +87,7 @@ fn every_place(both: &mut Both, cases: u64) -> u64 {
         both.narrow(sheet, 0, 5);
     });
     let (e, e_sheet) = (to_bytes(&E), to_bytes(&E_SHEET));
-    for plan in [&P1[..], &P2[..]] {
+    for plan in [&P1[..], &P2[..], &P2_JOBS[..]] {
         each(plan, &mut |both, plan| {
             both.judge(&e, plan);
             both.judge_sheet(&e_sheet, plan);
@@ -98,8 +98,8 @@ fn every_place(both: &mut Both, cases: u64) -> u64 {
     for case in 0..cases {
         let mut rng = Rng::new(77, case);
         let kind = if case % 2 == 0 { Kind::Book } else { Kind::Sheet };
-        let (draft, lines) = pair(&mut rng, kind, SMALL);
-        let (words, plan) = (draft.words(), plan_words(&lines));
+        let (draft, plan) = pair(&mut rng, kind, SMALL);
+        let (words, plan) = (draft.words(), plan.words());
         for at in 0..words.len() + plan.len() {
             let (mut words, mut plan) = (words.clone(), plan.clone());
             let word = words.iter_mut().chain(&mut plan).nth(at).expect("in one of the two");
@@ -232,8 +232,8 @@ fn random(both: &mut Both, rng: &mut Rng) {
         _ => (),
     }
     let size = size(rng);
-    let (draft, lines) = pair(rng, kind, size);
-    let (mut words, mut plan) = (draft.words(), plan_words(&lines));
+    let (draft, plan) = pair(rng, kind, size);
+    let (mut words, mut plan) = (draft.words(), plan.words());
     match rng.below(100) {
         0..=44 => (),
         45..=64 => damage::words(rng, &mut words),
@@ -256,7 +256,7 @@ fn random(both: &mut Both, rng: &mut Rng) {
 
 fn extremes(both: &mut Both, rng: &mut Rng, kind: Kind) {
     let (mut words, mut plan) = match rng.below(10) {
-        0 => extreme::largest(kind),
+        0 => extreme::largest(kind, rng.from(1, 2)),
         1..=4 => {
             let draft = extreme::counts(rng, kind);
             (draft.words(), extreme::long_plan(rng, &draft))
@@ -285,6 +285,8 @@ fn extremes(both: &mut Both, rng: &mut Rng, kind: Kind) {
 }
 
 const HALF: u32 = 0x8000_0000;
+/// A step takes words of any edition.
+const EDITIONS: [u32; 8] = [1, 1, 1, 2, 2, 0, 3, N];
 
 /// Steps from any position on any words.
 fn steps(both: &mut Both, rng: &mut Rng) {
@@ -300,9 +302,9 @@ fn steps(both: &mut Both, rng: &mut Rng) {
 
 fn any_words(rng: &mut Rng) -> (Vec<u32>, Vec<Position>) {
     let lines = rng.pick(&[0, 1, 1, 2, 2, 3, 15, 16, HALF - 1, HALF, HALF + 1, N - 1, N]);
-    let mut words = vec![1, 0, lines];
+    let mut words = vec![rng.pick(&EDITIONS), 0, lines];
     let some = [0, 0, 0, 1, 1, 2, 3, 10, HALF - 1, HALF, N - 2, N - 1, N, LAST, LAST - 1];
-    for _ in 0..rng.below(12) {
+    for _ in 0..rng.below(14) {
         words.push(rng.pick(&some));
     }
     words.truncate(rng.pick(&[0, 2, 3, 4, 5, 6, 7, 99, 99, 99, 99, 99]));
@@ -322,14 +324,19 @@ fn wrapping(rng: &mut Rng) -> (Vec<u32>, Vec<Position>) {
     let duration = rng.pick(&[0, 1, 5, LAST, N, N - 4]);
     let first = rng.pick(&[0, 1, HALF, HALF + 1, N - 1, N]);
     let token = rng.below(4).wrapping_sub(rng.pick(&[0, first, first ^ HALF]));
-    let mut words = vec![1, 0, lines];
+    let mut words = vec![rng.pick(&EDITIONS), 0, lines];
     for _ in 0..3 {
         words.extend([first, rng.pick(&[N, N, token, token.wrapping_add(1)])]);
     }
     words.resize(3 + 2 * lines.min(3) as usize, 0);
     for value in 0..rng.below(6) {
         words.extend([value, duration]);
+        if words[0] == 2 {
+            words.push(rng.pick(&[0, 7, N]));
+        }
     }
+    // The last token may lack a word.
+    words.truncate(words.len() - rng.pick(&[0, 0, 1]));
     let start =
         rng.pick(&[0, 0, 5, LAST, 0u32.wrapping_sub(duration), 3u32.wrapping_sub(duration)]);
     (words, vec![Position { line, token, start }])

@@ -103,6 +103,9 @@ impl Tally {
         for ((_, _, place), count) in self.places.iter().filter(|(key, _)| key.1 == number) {
             *sums.entry(*place).or_default() += count;
         }
+        if sums.is_empty() {
+            return;
+        }
         println!("{title}: {}", list(sums.into_iter().map(|(place, n)| (shown(place), n))));
     }
 

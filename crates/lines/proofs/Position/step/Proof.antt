@@ -17,20 +17,20 @@ returns-2 c =
 
 returns-3 : tie.Need-returns-3
 returns-3 c =
-    let a = c .before .before .before .before .before .before .before .before .args in
-    no-words (a .plan .now) (a .self) (omega arith)
+    let a = c .before .before .before .before .before .before .before .before .before .before .args in
+    no-words (a .plan .now) (a .self) _ _ (cc) (cc) (c .if3 .taken)
 
 returns-4 : tie.Need-returns-4
 returns-4 c =
     let sum = c .before .before in
-    let a = sum .before .before .before .before .before .before .before .before .before .before .args in
+    let a = sum .before .before .before .before .before .before .before .before .before .before .before .before .args in
     no-time (a .plan .now) (a .self) (cc)
 
 returns-5 : tie.Need-returns-5
 returns-5 c =
-    let sum = c .before .before .before .before in
-    let a = sum .before .before .before .before .before .before .before .before .before .before .args in
-    next-token (a .plan .now) (a .self) _ _ (omega arith) (omega arith) (omega arith) (cc) (cc)
+    let sum = c .before .before .before .before .before in
+    let a = sum .before .before .before .before .before .before .before .before .before .before .before .before .args in
+    next-token (a .plan .now) (a .self) _ _ _ _ _ (cc) (cc) (omega arith) (omega arith) (sum .before .before .if3 .left) (cc) (cc) (cc)
 
 pub step-spec : {M : Type 1} → statement M
 step-spec =
@@ -44,14 +44,9 @@ step-spec =
     (λ c. search needs)
     (λ c κs. search needs)
     returns-2
-    (λ c. search needs)
-    (λ c. search needs)
-    (λ c. search needs)
-    (λ c. search needs)
     (λ c κs. search needs)
-    (λ c. search needs)
-    (λ c. search needs)
-    (λ c. search needs)
+    (λ c κs. search needs)
+    (λ c κs. search needs)
     (λ c. search needs)
     (λ c. search needs)
     returns-3
@@ -60,6 +55,7 @@ step-spec =
     (λ c κs. search needs)
     (λ c. search needs)
     (λ c. search needs)
+    (λ c κs. search needs)
     (λ c κs. search needs)
     (λ c. search needs)
     returns-4
