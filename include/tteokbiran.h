@@ -34,6 +34,12 @@ void tteokbiran_judge(const uint8_t *book, size_t book_len, const uint8_t *plan,
 void tteokbiran_judge_sheet(const uint8_t *sheet, size_t sheet_len, const uint8_t *plan, size_t plan_len, uint32_t *number, uint32_t *a,
                             uint32_t *b, uint32_t *c);
 
+/* A desk's own judgement, where two desks, 0 and 1, write rules into one book and share the plan. desks has one word for each rule of the book,
+ * its desk. Answers 1 to 4; then 19, without place, for a list of the wrong length, a word over 1 or a desk over 1; then 5 to 11 and 18; then 12
+ * for the desk's own rules only, with the rule's number in the whole book, or 0 with how many of the desk's own trigger tokens were examined. */
+void tteokbiran_judge_desk(const uint8_t *book, size_t book_len, const uint8_t *plan, size_t plan_len, const uint32_t *desks,
+                           size_t desks_len, uint32_t desk, uint32_t *number, uint32_t *a, uint32_t *b, uint32_t *c);
+
 /* Translates the bytes of a sheet into a book, in lent words. On 0, a words were written at the start of room and b alternatives made;
  * the words behind them are as they were. On a refusal all of room is. */
 void tteokbiran_translate(const uint8_t *sheet, size_t sheet_len, uint32_t *room, size_t room_len, uint32_t *number, uint32_t *a,

@@ -20,6 +20,7 @@ static uint32_t book_words[MOST / 4], plan_words[MOST / 4], room[16384];
 static size_t book_len, sheet_len, plan_len;
 static uint32_t number, a, b, c, token, value, job;
 static uint32_t table[25];
+static uint32_t desks[64]; /* all rules are desk 0's */
 static uint64_t start, end, times[11];
 
 static void judge(void) { tteokbiran_judge(book, book_len, plan, plan_len, &number, &a, &b, &c); }
@@ -27,6 +28,11 @@ static void judge(void) { tteokbiran_judge(book, book_len, plan, plan_len, &numb
 static void judge_sheet(void) { tteokbiran_judge_sheet(sheet, sheet_len, plan, plan_len, &number, &a, &b, &c); }
 
 static void translate(void) { tteokbiran_translate(sheet, sheet_len, room, 16384, &number, &a, &b, &c); }
+
+static void judge_desk(void) {
+    size_t rules = book_words[6] < 64 ? book_words[6] : 64;
+    tteokbiran_judge_desk(book, book_len, plan, plan_len, desks, rules, 0, &number, &a, &b, &c);
+}
 
 static void narrow(void) { tteokbiran_narrow(sheet, sheet_len, 0, table, 25, &number, &a, &b, &c); }
 
@@ -51,7 +57,7 @@ static struct {
 } functions[] = {
     {"tteokbiran_judge", judge, 0, ""},   {"tteokbiran_judge_sheet", judge_sheet, 0, ""}, {"tteokbiran_translate", translate, 0, ""},
     {"tteokbiran_narrow", narrow, 0, ""}, {"tteokbiran_earliest", earliest, 0, ""},       {"tteokbiran_open", open_last, 0, ""},
-    {"tteokbiran_step", step_all, 0, ""},
+    {"tteokbiran_step", step_all, 0, ""}, {"tteokbiran_judge_desk", judge_desk, 0, ""},
 };
 
 static size_t slurp(const char *folder, const char *name, uint8_t *bytes) {

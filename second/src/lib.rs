@@ -2,6 +2,7 @@
 //! means than the proved one, to compare the two.
 
 pub mod decode;
+pub mod desks;
 pub mod earliest;
 pub mod generate;
 pub mod layout;

@@ -97,10 +97,20 @@ impl Test for Atom {
 
 /// Faults 12 and 0.
 pub fn judge_rules<T: Test>(book: &Book<T>, tokens: &Tokens) -> Answer {
+    judge_some(book, tokens, |_| true)
+}
+
+/// The same for the rules that are asked for, with the numbers that they have
+/// in the book.
+pub fn judge_some<T: Test>(
+    book: &Book<T>,
+    tokens: &Tokens,
+    asked: impl Fn(usize) -> bool,
+) -> Answer {
     // A rule without trigger is asked once, and fault 12 then shows token 0.
     let once = [Span::default()];
     let mut examined = 0;
-    for (number, rule) in book.rules.iter().enumerate() {
+    for (number, rule) in book.rules.iter().enumerate().filter(|(number, _)| asked(*number)) {
         let triggers = rule.trigger.map_or(&once[..], |value| tokens.of(value));
         let alternatives = &book.alternatives[rule.alternatives.clone()];
         for trigger in triggers {

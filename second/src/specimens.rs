@@ -53,6 +53,9 @@ pub const EMPTY_PLAN: [u32; 7] = [1, 7, 2, 0, 0, 0, 0];
 /// What a sound book gets with a plan of no words.
 pub const SOUND: Answer = [5, 0, 0, 0];
 
+/// One variable, one value of any duration, no rule.
+pub const B1: [u32; 19] = [1, 19, 1, 14, 1, 16, 0, 19, 0, 19, 0, 19, 0, 19, 0, 1, 1, N, 1];
+
 /// The plan with one word changed.
 pub fn with(words: &[u32], at: usize, word: u32) -> Vec<u32> {
     let mut out = words.to_vec();

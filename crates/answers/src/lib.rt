@@ -23,6 +23,7 @@ pub enum Answer {
     RoomTooShort { words: u32 },
     NoSuchTimeline,
     EndsApart { timeline: u32 },
+    NoSuchDesk,
     NoSuchAlternative,
     TableTooShort,
 }
@@ -76,6 +77,7 @@ pub fn numbers_of(r: Answer) -> Numbers
         Answer::RoomTooShort { words } => row(15, words, 0),
         Answer::NoSuchTimeline => row(17, 0, 0),
         Answer::EndsApart { timeline } => row(18, timeline, 0),
+        Answer::NoSuchDesk => row(19, 0, 0),
         Answer::NoSuchAlternative => row(27, 0, 0),
         Answer::TableTooShort => row(25, 0, 0),
     }

@@ -85,7 +85,7 @@ module _ (b : List ℕ) (v : ℕ) (here : v < count b 0) where
   values-length = rw variable-at (length-run _ _ _ _)
 
   -- its value k stands in the book where the tests look
-  value-at : (k : ℕ) → k < valuesOf 1 b v → valueOf (variableOf b v) k ≡ valueAt b (plan.valuePlace b v k)
+  pub value-at : (k : ℕ) → k < valuesOf 1 b v → valueOf (variableOf b v) k ≡ valueAt b (plan.valuePlace b v k)
   unfolding variableAt
   value-at k l =
       let place : offset b 1 + 3 * word b (offset b 0 + v * 2) + k * 3 ≡ plan.valuePlace b v k = omega (arith, ap (word b) (add-zero (offset b 0 + v * 2))) in

@@ -45,17 +45,17 @@ module _ {C : Type 0} (t5 : Fifth C) (holds : Choice → C → Bool) (e : ℕ) (
   unmet-same k t = rw (met-same t5 holds e b r (lineOf p) k t)
 
   -- so the first of them is the same
-  first-same : (k : ℕ) → firstUnmet holds (lineOf p) (ruleAt t5 b k) ≡ firstUnmet (askHolds e b) (lineOf p) (placedRule e b k)
+  pub first-same : (k : ℕ) → firstUnmet holds (lineOf p) (ruleAt t5 b k) ≡ firstUnmet (askHolds e b) (lineOf p) (placedRule e b k)
   unfolding firstUnmet triggerLine ruleAt
   first-same k = ap (λ (q : Token → Bool). first q (triggerLine (lineOf p) (placedRule e b k))) (fun-ext (unmet-same k))
 
   -- and whether there is one
-  rule-same : (k : ℕ) → ruleUnmet holds (lineOf p) (ruleAt t5 b k) ≡ ruleUnmet (askHolds e b) (lineOf p) (placedRule e b k)
+  pub rule-same : (k : ℕ) → ruleUnmet holds (lineOf p) (ruleAt t5 b k) ≡ ruleUnmet (askHolds e b) (lineOf p) (placedRule e b k)
   unfolding ruleUnmet triggerLine ruleAt
   rule-same k = rw (first-same k)
 
   -- the same tokens are trigger tokens
-  examined-same : (n at : ℕ) → examined (lineOf p) (run (ruleAt t5 b) 4 n at) ≡ examined (lineOf p) (run (placedRule e b) 4 n at)
+  pub examined-same : (n at : ℕ) → examined (lineOf p) (run (ruleAt t5 b) 4 n at) ≡ examined (lineOf p) (run (placedRule e b) 4 n at)
   unfolding examined run triggerLine isTrigger ruleAt
   examined-same zero at = refl
   examined-same (suc n) at = rw (examined-same n (at + 4))

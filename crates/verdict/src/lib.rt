@@ -4,6 +4,7 @@ ghost use Prim.Native.Nat.{_+_, _*_, _<_, _^_};
 ghost use Rattle.words.specs.Words.{word};
 ghost use Rattle.clock.specs.Clock.{noLimit};
 ghost use Rattle.answers.specs.Numbers.{numbersOf};
+ghost use Rattle.layout.specs.Layout.{recordAt};
 ghost use Rattle.lines.specs.Lines.{token, jobAt, lineOf};
 ghost use Rattle.verdict.specs.Judged.{examined, judged, judgedSheet};
 ghost use Rattle.verdict.specs.Survey.{Surveyed, placedRules, placedFault, judgedBy};
@@ -94,6 +95,14 @@ fn survey(e: usize, b: &[u32], p: &[u32], place: usize) -> Tally
         token: 0,
         count: 1,
     }
+}
+
+// The trigger tokens of one rule of a book, by its number.
+pub fn survey_rule(book: &[u32], plan: &[u32], rule: u32) -> Tally
+    ensures { λ r. ⌜ Surveyed 1 (now (book .entry)) (now (plan .entry)) (recordAt 1 (now (book .entry)) 2 rule) r ⌝ }
+{
+    let place = number_at(book, 7) + rule as usize * 4;
+    survey(1, book, plan, place)
 }
 
 // All rules in order: the first that isn't met, or how many trigger tokens were examined.

@@ -2,6 +2,9 @@
 //! know its signatures; the programs that use it take them in as a module.
 #![allow(dead_code, unused_imports)] // not every program asks everything
 
+pub mod desks;
+
+use second::words::from_bytes;
 use second::{Answer, Position};
 
 /// What a step left behind in the five numbers lent to it.

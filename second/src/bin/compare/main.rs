@@ -6,6 +6,7 @@
 
 mod both;
 mod cases;
+mod desks;
 mod jobs;
 mod part;
 mod plan_end;
@@ -19,7 +20,7 @@ use std::process::exit;
 use std::time::Instant;
 use tally::Door;
 
-const PARTS: &[&Part] = &[&cases::BASE, &plan_end::PART, &jobs::PART];
+const PARTS: &[&Part] = &[&cases::BASE, &plan_end::PART, &jobs::PART, &desks::PART];
 const SEED: u64 = 20_250_101;
 
 fn usage() -> ! {

@@ -1,0 +1,3 @@
+-- The definitions that the contracts of `desks` cite.
+pub mod List
+pub mod Own
