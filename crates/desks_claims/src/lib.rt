@@ -1,1 +1,1 @@
-// The claims of L5 as theorems: this crate has no code. See specs/, Accepted.antt and Undisturbed.antt first.
+// The claims of L5 and L14 as theorems: this crate has no code. See specs/, Accepted.antt, Undisturbed.antt and Easing.antt first.
