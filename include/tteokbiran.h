@@ -2,11 +2,12 @@
  *
  * A run of bytes or words is lent as a pointer and then its count of elements. What is proved holds if the caller keeps these terms,
  * which nothing here can check:
- *   - a run's pointer points to as many elements as its count says, aligned for their type, readable (room, table, times: writable too), and
- *     changed by nobody else during the call; with a count of 0 it may be any pointer, also NULL;
+ *   - a run's pointer points to as many elements as its count says, aligned for their type, readable (room, table, times, and what isn't const of
+ *     remove_rules: writable too), and changed by nobody else during the call; with a count of 0 it may be any pointer, also NULL;
  *   - every other pointer (number, a, b, c; token of open; token, start, value, end and job of step) points to a writable number of its type,
  *     aligned; in one call no two of them overlap, and none lies in a run that is lent;
- *   - room, table or times overlaps no other run. Runs that are only read may overlap each other.
+ *   - a run that is written (room, table, times; book and desks of remove_rules) overlaps no other run. Runs that are only read may overlap each
+ *     other.
  * What number, a, b, c, value, end and job held before the call doesn't matter. No function keeps a pointer, uses the heap, or writes to
  * anything that isn't named here. Calls from several threads don't disturb each other.
  */
@@ -58,6 +59,14 @@ void tteokbiran_narrow(const uint8_t *sheet, size_t sheet_len, uint32_t alternat
  * are room enough; fewer get as many of them as they hold. The numbers behind those shown, and on any other answer all, are as they were. */
 void tteokbiran_earliest(const uint8_t *book, size_t book_len, uint32_t alternative, uint64_t *times, size_t times_len, uint32_t *number,
                          uint32_t *a, uint32_t *b, uint32_t *c);
+
+/* Takes the rules whose numbers are listed out of a book, here as words, with their alternatives, names and atoms, and out of its list of desks, one
+ * word a rule: both are closed up where they are lent. Answers 1 to 4, then 19 for a list of desks of another length than the book's rules or with a
+ * word over 1, then 24 for numbers that don't strictly increase or that the book hasn't got; else 0 with a = the book's new words and b = its new
+ * rule count. So the first a words of book and the first b of desks are the shorter book and its list; the words behind them are as they were. On a
+ * refusal all words of both are. */
+void tteokbiran_remove_rules(uint32_t *book, size_t book_len, uint32_t *desks, size_t desks_len, const uint32_t *list, size_t list_len,
+                             uint32_t *number, uint32_t *a, uint32_t *b, uint32_t *c);
 
 /* Opens a reader over timeline `line` of a plan, here as words. Answers 1 to 11 and 18, then 17 for a timeline that isn't there, else 0, as four
  * numbers. *token becomes the token number of the position to read from: 0, or 4,294,967,295 on a refusal, which names no token. The

@@ -20,6 +20,7 @@ static uint32_t book_words[MOST / 4], plan_words[MOST / 4], room[16384];
 static size_t book_len, sheet_len, plan_len;
 static uint32_t number, a, b, c, token, value, job;
 static uint32_t table[25];
+static uint32_t list[32];
 static uint32_t desks[64]; /* all rules are desk 0's */
 static uint64_t start, end, times[11];
 
@@ -37,6 +38,15 @@ static void judge_desk(void) {
 static void narrow(void) { tteokbiran_narrow(sheet, sheet_len, 0, table, 25, &number, &a, &b, &c); }
 
 static void earliest(void) { tteokbiran_earliest(book, book_len, 0, times, 11, &number, &a, &b, &c); }
+
+/* every other rule goes, of a copy */
+static void remove_rules(void) {
+    uint32_t rules = book_len < 28 ? 0 : book_words[6], n = 0;
+    memcpy(room, book_words, sizeof room);
+    for (uint32_t i = 0; i < rules && i < 64; i += 2)
+        list[n++] = i;
+    tteokbiran_remove_rules(room, book_len / 4 < 16384 ? book_len / 4 : 16384, desks, rules < 64 ? rules : 64, list, n, &number, &a, &b, &c);
+}
 
 static void open_last(void) {
     tteokbiran_open(book_words, book_len / 4, plan_words, plan_len / 4, plan_words[2] - 1, &number, &a, &b, &c, &token);
@@ -57,7 +67,7 @@ static struct {
 } functions[] = {
     {"tteokbiran_judge", judge, 0, ""},   {"tteokbiran_judge_sheet", judge_sheet, 0, ""}, {"tteokbiran_translate", translate, 0, ""},
     {"tteokbiran_narrow", narrow, 0, ""}, {"tteokbiran_earliest", earliest, 0, ""},       {"tteokbiran_open", open_last, 0, ""},
-    {"tteokbiran_step", step_all, 0, ""}, {"tteokbiran_judge_desk", judge_desk, 0, ""},
+    {"tteokbiran_step", step_all, 0, ""}, {"tteokbiran_judge_desk", judge_desk, 0, ""},   {"tteokbiran_remove_rules", remove_rules, 0, ""},
 };
 
 static size_t slurp(const char *folder, const char *name, uint8_t *bytes) {

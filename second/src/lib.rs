@@ -10,6 +10,7 @@ pub mod narrow;
 pub mod placed;
 pub mod plan;
 pub mod reader;
+pub mod removal;
 pub mod search;
 pub mod sheet;
 pub mod specimens;

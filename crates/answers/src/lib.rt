@@ -24,6 +24,7 @@ pub enum Answer {
     NoSuchTimeline,
     EndsApart { timeline: u32 },
     NoSuchDesk,
+    NoSuchRules,
     NoSuchAlternative,
     TableTooShort,
 }
@@ -78,6 +79,7 @@ pub fn numbers_of(r: Answer) -> Numbers
         Answer::NoSuchTimeline => row(17, 0, 0),
         Answer::EndsApart { timeline } => row(18, timeline, 0),
         Answer::NoSuchDesk => row(19, 0, 0),
+        Answer::NoSuchRules => row(24, 0, 0),
         Answer::NoSuchAlternative => row(27, 0, 0),
         Answer::TableTooShort => row(25, 0, 0),
     }

@@ -171,7 +171,7 @@ module _ {C : Type 0} (holds : Choice → C → Bool) (S : Rule C → Type 0) (F
       )
 
   -- all of them
-  solution : (answer .number ≡ 0) ↔ Solution e b p rules S
+  pub solution : (answer .number ≡ 0) ↔ Solution e b p rules S
   solution = (
     λ h.
         let s = stages (bookFault e b) _ .0 h in
@@ -194,7 +194,7 @@ module _ {C : Type 0} (holds : Choice → C → Bool) (S : Rule C → Type 0) (F
       else-next _ _ (s .0) ∙ else-next _ _ (t .0) ∙ rules-count holds (lineOf p) rules (t .1)
 
   -- row 0
-  solution-count : (n : ℕ) → (answer ≡ numbers 0 n 0) ↔ (Solution e b p rules S × Examined (lineOf p) rules n)
+  pub solution-count : (n : ℕ) → (answer ≡ numbers 0 n 0) ↔ (Solution e b p rules S × Examined (lineOf p) rules n)
   solution-count n = (
     λ h.
         let z = ap (λ (r : Numbers). r .number) h in

@@ -153,7 +153,7 @@ module _ {C : Type 0} (holds : Choice → C → Bool) (lines : ℕ → List Toke
 -- ---- a book and a sheet
 
 -- the rules of a sound book are as they must be
-book-rules : {b : List ℕ} → Sound 1 b → All (RuleFine AtomFine 1 b) (rulesOf atoms b)
+pub book-rules : {b : List ℕ} → Sound 1 b → All (RuleFine AtomFine 1 b) (rulesOf atoms b)
 unfolding atomAt fifthWidth
 book-rules {b} h =
     rules-fine atoms AtomFine 1 b (alternative-ranges h) (name-ranges h) (ask-ranges h) .1

@@ -64,7 +64,7 @@ module _ {A S X : Type 0} (row : S → A → List ℕ) (step : S → A → S) (a
     starts-are zero l = sym first
     starts-are (suc i) l = starts-next 1 b t j i ∙ record-is i l .1
 
-    ranges : Ranges 1 b t j into
+    pub ranges : Ranges 1 b t j into
     ranges =
         record {
           follows = λ i l. record-is i (omega arith) .0 ∙ sym (starts-are i (omega arith));
@@ -72,7 +72,7 @@ module _ {A S X : Type 0} (row : S → A → List ℕ) (step : S → A → S) (a
         }
 
 -- such a range is sound, where its number is
-range-sound : {b : List ℕ} {t j into : ℕ} → Ranges 1 b t j into → {lo hi : ℕ} (i : ℕ) → i < count b t → lo ≤ field 1 b t i (j + 1)
+pub range-sound : {b : List ℕ} {t j into : ℕ} → Ranges 1 b t j into → {lo hi : ℕ} (i : ℕ) → i < count b t → lo ≤ field 1 b t i (j + 1)
     → field 1 b t i (j + 1) ≤ hi → RangeSound 1 b (record { table = t; word = j; least = lo; most = hi; into = into }) i
 range-sound r i l some few = record { follows = r .follows i l; some = some; few = few; inside = ends-inside r i l }
 

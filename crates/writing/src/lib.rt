@@ -79,7 +79,7 @@ pub fn count_all(s: &[u32], list: &[u64]) -> Totals
 }
 
 // Four words at `at`; the next place.
-fn put4(out: &mut [u32], at: usize, a: u32, b: u32, c: u32, d: u32) -> usize
+pub fn put4(out: &mut [u32], at: usize, a: u32, b: u32, c: u32, d: u32) -> usize
     requires { ⌜ Has (now out) at (a ∷ b ∷ c ∷ d ∷ []) ⌝ }
     ensures { λ r. ⌜ Wrote (now (out .entry)) (now (out .exit)) at r (a ∷ b ∷ c ∷ d ∷ []) ⌝ }
 {
@@ -94,7 +94,7 @@ fn put4(out: &mut [u32], at: usize, a: u32, b: u32, c: u32, d: u32) -> usize
 }
 
 // Six words at `at`; the next place.
-fn put6(out: &mut [u32], at: usize, a: u32, b: u32, c: u32, d: u32, e: u32, f: u32) -> usize
+pub fn put6(out: &mut [u32], at: usize, a: u32, b: u32, c: u32, d: u32, e: u32, f: u32) -> usize
     requires { ⌜ Has (now out) at (a ∷ b ∷ c ∷ d ∷ e ∷ f ∷ []) ⌝ }
     ensures { λ r. ⌜ Wrote (now (out .entry)) (now (out .exit)) at r (a ∷ b ∷ c ∷ d ∷ e ∷ f ∷ []) ⌝ }
 {

@@ -12,6 +12,7 @@ mod part;
 mod plan_end;
 #[path = "../../proved/mod.rs"]
 mod proved;
+mod removal;
 mod tally;
 
 use both::Both;
@@ -20,7 +21,7 @@ use std::process::exit;
 use std::time::Instant;
 use tally::Door;
 
-const PARTS: &[&Part] = &[&cases::BASE, &plan_end::PART, &jobs::PART, &desks::PART];
+const PARTS: &[&Part] = &[&cases::BASE, &plan_end::PART, &jobs::PART, &desks::PART, &removal::PART];
 const SEED: u64 = 20_250_101;
 
 fn usage() -> ! {

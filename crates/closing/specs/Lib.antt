@@ -1,0 +1,3 @@
+-- The definitions that the contracts of `closing` cite.
+pub mod Rebuilt
+pub mod Left
