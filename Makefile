@@ -3,7 +3,7 @@ PREFIX ?= /usr/local
 to = $(DESTDIR)$(abspath $(PREFIX))
 
 # the crates with exported functions, each built by itself; the library holds them all
-parts = front_judge front_reader front_desks front_removal front_narrow front_earliest
+parts = front_judge front_reader front_desks front_removal front_order front_narrow front_earliest
 
 .PHONY: demo test check lib programs install bench stack believed
 

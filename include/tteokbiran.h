@@ -68,6 +68,16 @@ void tteokbiran_earliest(const uint8_t *book, size_t book_len, uint32_t alternat
 void tteokbiran_remove_rules(uint32_t *book, size_t book_len, uint32_t *desks, size_t desks_len, const uint32_t *list, size_t list_len,
                              uint32_t *number, uint32_t *a, uint32_t *b, uint32_t *c);
 
+/* Whether the bytes are a sound book that speaks only of order: every atom has the bounds (0, N), (1, N) or (0, 0), and none has a time point or
+ * the end of the plan. N is 4,294,967,295. */
+bool tteokbiran_order_only(const uint8_t *book, size_t book_len);
+
+/* The answer of tteokbiran_judge for a book that speaks only of order, by another way: start and end times are replaced by their ranks among all
+ * starts and ends of the plan before the rules are tested. Answers 1 to 4 for the book, 26 for one that speaks of more than order, then what
+ * tteokbiran_judge answers. */
+void tteokbiran_judge_by_order(const uint8_t *book, size_t book_len, const uint8_t *plan, size_t plan_len, uint32_t *number, uint32_t *a,
+                               uint32_t *b, uint32_t *c);
+
 /* Opens a reader over timeline `line` of a plan, here as words. Answers 1 to 11 and 18, then 17 for a timeline that isn't there, else 0, as four
  * numbers. *token becomes the token number of the position to read from: 0, or 4,294,967,295 on a refusal, which names no token. The
  * position's start is 0 in both cases. */

@@ -16,11 +16,10 @@
 
 /* the files of the folder, also as words, and where the answers go */
 static uint8_t book[MOST], sheet[MOST], plan[MOST];
-static uint32_t book_words[MOST / 4], plan_words[MOST / 4], room[16384];
+static uint32_t book_words[MOST / 4], plan_words[MOST / 4], room[16384], list[32];
 static size_t book_len, sheet_len, plan_len;
 static uint32_t number, a, b, c, token, value, job;
 static uint32_t table[25];
-static uint32_t list[32];
 static uint32_t desks[64]; /* all rules are desk 0's */
 static uint64_t start, end, times[11];
 
@@ -48,6 +47,10 @@ static void remove_rules(void) {
     tteokbiran_remove_rules(room, book_len / 4 < 16384 ? book_len / 4 : 16384, desks, rules < 64 ? rules : 64, list, n, &number, &a, &b, &c);
 }
 
+static void order_only(void) { tteokbiran_order_only(book, book_len); }
+
+static void judge_by_order(void) { tteokbiran_judge_by_order(book, book_len, plan, plan_len, &number, &a, &b, &c); }
+
 static void open_last(void) {
     tteokbiran_open(book_words, book_len / 4, plan_words, plan_len / 4, plan_words[2] - 1, &number, &a, &b, &c, &token);
 }
@@ -68,6 +71,7 @@ static struct {
     {"tteokbiran_judge", judge, 0, ""},   {"tteokbiran_judge_sheet", judge_sheet, 0, ""}, {"tteokbiran_translate", translate, 0, ""},
     {"tteokbiran_narrow", narrow, 0, ""}, {"tteokbiran_earliest", earliest, 0, ""},       {"tteokbiran_open", open_last, 0, ""},
     {"tteokbiran_step", step_all, 0, ""}, {"tteokbiran_judge_desk", judge_desk, 0, ""},   {"tteokbiran_remove_rules", remove_rules, 0, ""},
+    {"tteokbiran_order_only", order_only, 0, ""},   {"tteokbiran_judge_by_order", judge_by_order, 0, ""},
 };
 
 static size_t slurp(const char *folder, const char *name, uint8_t *bytes) {
@@ -121,11 +125,11 @@ int main(int argc, char **argv) {
         }
     }
     for (size_t f = 0; f < sizeof functions / sizeof *functions; f++) {
-        printf("%-24s %8zu bytes of stack, in %s\n", functions[f].name, functions[f].most, functions[f].where);
+        printf("%-26s %8zu bytes of stack, in %s\n", functions[f].name, functions[f].most, functions[f].where);
         if (functions[f].most > TTEOKBIRAN_STACK)
             bad = 1;
     }
-    printf("%-24s %8d bytes of stack are stated\n", "the header", TTEOKBIRAN_STACK);
+    printf("%-26s %8d bytes of stack are stated\n", "the header", TTEOKBIRAN_STACK);
     free(area);
     return bad;
 }

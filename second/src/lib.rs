@@ -7,6 +7,7 @@ pub mod earliest;
 pub mod generate;
 pub mod layout;
 pub mod narrow;
+pub mod order;
 pub mod placed;
 pub mod plan;
 pub mod reader;

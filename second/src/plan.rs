@@ -16,6 +16,18 @@ impl Tokens {
     pub fn of(&self, value: usize) -> &[Span] {
         &self.spans[self.first[value]..self.first[value + 1]]
     }
+
+    /// The tokens of all values.
+    pub fn all(&self) -> &[Span] {
+        &self.spans
+    }
+
+    /// The same tokens at other times.
+    pub fn moved(&self, to: impl Fn(u32) -> u32) -> Tokens {
+        let one = |s: &Span| Span { start: to(s.start), end: to(s.end), ..*s };
+        let spans = self.spans.iter().map(one).collect();
+        Tokens { spans, first: self.first.clone(), end: to(self.end) }
+    }
 }
 
 /// Words of a token: value, duration and, from edition 2 on, job.

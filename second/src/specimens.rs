@@ -5,7 +5,7 @@ use crate::generate::draft::{alternative, plan_words, AlternativeDraft, Draft, N
 use crate::layout::{Answer, Kind, LAST, N};
 
 pub mod jobs;
-mod plan_end;
+pub mod plan_end;
 
 pub enum Call {
     Judge(Vec<u32>, Vec<u32>),

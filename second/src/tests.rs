@@ -5,7 +5,8 @@ use crate::generate::{extreme, jobs, load, plan_end, slow};
 use crate::layout::{Answer, Kind, LAST, N};
 use crate::specimens::{all, with, Call, E, EMPTY_PLAN, E_SHEET, P1, P2};
 use crate::words::to_bytes;
-use crate::{bytes, earliest, judge, judge_sheet, open_reader, step, translate, Position, Seen};
+use crate::{bytes, earliest, judge, judge_sheet, open_reader, order, step, translate};
+use crate::{Position, Seen};
 
 #[test]
 fn specimens_give_their_lines() {
@@ -205,6 +206,11 @@ fn what_is_measured_reaches_the_rules() {
     };
     assert_eq!(by(Kind::Book, load::one_name()), [0, 16_384, 0, 0]);
     assert_eq!(by(Kind::Book, load::two_names()), [0, 256, 0, 0]);
+    let (book, plan) = load::one_name_by_order();
+    assert_eq!(order::judge_by_order(&book, &plan), [0, 16_384, 0, 0]);
+    let (book, plan) = (load::largest_order_book(), load::staggered_plan());
+    assert_eq!((book.len(), plan.len()), (16_384, 16_383));
+    assert_eq!(order::judge_by_order(&book, &plan), [0, 0, 0, 0]);
     for (names, chained) in [(3, false), (4, false), (3, true), (4, true)] {
         assert_eq!(by(Kind::Book, load::names(names, 8, chained)), [12, 0, 0, 0]);
     }

@@ -5,7 +5,7 @@ use mathlib.Core.List.{[], _∷_}
 use lib.ListN.{getD}
 use Rattle.answers.specs.declared.Numbers.{Numbers}
 use Rattle.answers.specs.declared.Answer.{Answer}
-use Rattle.answers.specs.declared.Answer.the-variants.{Done, BookLength, BookHeader, BookEnd, BookRecord, PlanLength, PlanHeader, PlanEnd, ValueUnknown, DurationOutside, NotSuccessor, PastLastTick, RuleNotMet, TooManyAlternatives, TooLong, RoomTooShort, NoSuchTimeline, EndsApart, NoSuchDesk, NoSuchRules, NoSuchAlternative, TableTooShort}
+use Rattle.answers.specs.declared.Answer.the-variants.{Done, BookLength, BookHeader, BookEnd, BookRecord, PlanLength, PlanHeader, PlanEnd, ValueUnknown, DurationOutside, NotSuccessor, PastLastTick, RuleNotMet, TooManyAlternatives, TooLong, RoomTooShort, NoSuchTimeline, EndsApart, NoSuchDesk, NoSuchRules, NotOrderOnly, NoSuchAlternative, TableTooShort}
 use Rattle.answers.specs.Numbers.{numbersOf}
 
 -- the answer with these numbers
@@ -33,14 +33,14 @@ answerOf x =
     ∷ NoSuchTimeline
     ∷ EndsApart (x .a)
     ∷ NoSuchDesk
-    -- 20 to 23 and 26 aren't used
+    -- 20 to 23 aren't used
     ∷ BookLength
     ∷ BookLength
     ∷ BookLength
     ∷ BookLength
     ∷ NoSuchRules
     ∷ TableTooShort
-    ∷ BookLength
+    ∷ NotOrderOnly
     ∷ NoSuchAlternative
     ∷ [])
     (x .number) BookLength
@@ -67,6 +67,7 @@ answer-back NoSuchTimeline = refl
 answer-back (EndsApart timeline) = refl
 answer-back NoSuchDesk = refl
 answer-back NoSuchRules = refl
+answer-back NotOrderOnly = refl
 answer-back NoSuchAlternative = refl
 answer-back TableTooShort = refl
 

@@ -25,6 +25,7 @@ pub enum Answer {
     EndsApart { timeline: u32 },
     NoSuchDesk,
     NoSuchRules,
+    NotOrderOnly,
     NoSuchAlternative,
     TableTooShort,
 }
@@ -80,6 +81,7 @@ pub fn numbers_of(r: Answer) -> Numbers
         Answer::EndsApart { timeline } => row(18, timeline, 0),
         Answer::NoSuchDesk => row(19, 0, 0),
         Answer::NoSuchRules => row(24, 0, 0),
+        Answer::NotOrderOnly => row(26, 0, 0),
         Answer::NoSuchAlternative => row(27, 0, 0),
         Answer::TableTooShort => row(25, 0, 0),
     }

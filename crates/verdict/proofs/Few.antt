@@ -69,7 +69,7 @@ module _ (e : ℕ) (b p : List ℕ) (few : (v : ℕ) → v < count b 0 → lineC
       line-few _ (⊎-elim (λ q. inl (rw first at (q .0))) (λ q. inr (rw first at (q .variable))) (s .rules i l .trigger))
 
   -- and there are at most 64
-  examined-few : Sound e b → examined (lineOf p) (placedRules e b) < 2 ^ 32
+  pub examined-few : Sound e b → examined (lineOf p) (placedRules e b) < 2 ^ 32
   unfolding rulesOf
   examined-few s =
       let most = s .header .few 2 (omega arith) in

@@ -106,7 +106,7 @@ pub fn survey_rule(book: &[u32], plan: &[u32], rule: u32) -> Tally
 }
 
 // All rules in order: the first that isn't met, or how many trigger tokens were examined.
-fn examine(e: usize, b: &[u32], p: &[u32]) -> Answer
+pub fn examine(e: usize, b: &[u32], p: &[u32]) -> Answer
     requires { ⌜ examined (lineOf (now p)) (placedRules e (now b)) < 2 ^ 32 ⌝ }
     ensures { λ r. ⌜ numbersOf r ≡ placedFault e (now (b .entry)) (now (p .entry)) ⌝ }
 {

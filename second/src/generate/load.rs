@@ -12,7 +12,15 @@ fn widest(kind: Kind) -> Draft {
 
 /// 16,384 words. The triggers are all of value 31.
 pub fn largest_book() -> Vec<u32> {
-    let atoms: [&[u32]; 2] = [&[0, 0, 0, 1, 0, N], &[1, 1, 1, 0, 5, LAST]];
+    book_of([&[0, 0, 0, 1, 0, N], &[1, 1, 1, 0, 5, LAST]])
+}
+
+/// The same with atoms that speak only of order.
+pub fn largest_order_book() -> Vec<u32> {
+    book_of([&[0, 0, 0, 1, 0, N], &[1, 1, 1, 0, 1, N]])
+}
+
+fn book_of(atoms: [&[u32]; 2]) -> Vec<u32> {
     let mut draft = widest(Kind::Book);
     let mut made = 0;
     for rule in 0..64 {
@@ -48,6 +56,18 @@ pub fn largest_plan() -> Vec<u32> {
     plan_words(&sixteen_lines(510, 14))
 }
 
+/// As large, and no two lines have a start or end at one time but the first and
+/// the last: as many ranks as there can be.
+pub fn staggered_plan() -> Vec<u32> {
+    let mut lines = sixteen_lines(510, 14);
+    for (number, line) in (0u32..).zip(&mut lines) {
+        line.iter_mut().for_each(|token| token[1] = 16);
+        line[0][1] = 1 + number;
+    }
+    end_together(&mut lines);
+    plan_words(&lines)
+}
+
 /// 16,382 words and 5,449 tokens, the most that 16 lines of edition 2 can have.
 pub fn largest_plan_with_jobs() -> Vec<u32> {
     let lines = sixteen_lines(340, 9);
@@ -67,11 +87,20 @@ fn two_values(lines: usize) -> Draft {
 /// 64 rules over 15 full lines. The first alternative never holds, the second
 /// for one token.
 pub fn one_name() -> (Vec<u32>, Vec<u32>) {
+    rules_over_lines(&[&[0, 0, 0, 1, 5, 5]])
+}
+
+/// The same with atoms that speak only of order.
+pub fn one_name_by_order() -> (Vec<u32>, Vec<u32>) {
+    rules_over_lines(&[&[0, 0, 0, 1, 1, N], &[1, 1, 0, 0, 0, N]])
+}
+
+fn rules_over_lines(never: &[&[u32]]) -> (Vec<u32>, Vec<u32>) {
     let mut draft = two_values(15);
     for rule in 0..64 {
         let (line, value) = (rule % 15, rule / 15 % 2);
         let name = [(line + 1) % 15, value];
-        let never = alternative(&[name], &[&[0, 0, 0, 1, 5, 5]]);
+        let never = alternative(&[name], never);
         let beside = alternative(&[name], &[&[0, 0, 0, 1, 0, 0], &[1, 0, 1, 1, 0, 0]]);
         draft.rule([line, value], vec![never, beside]);
     }

@@ -5,6 +5,7 @@ pub mod draft;
 pub mod extreme;
 pub mod jobs;
 pub mod load;
+pub mod order;
 pub mod plan_end;
 pub mod random;
 pub mod rng;

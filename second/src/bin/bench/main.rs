@@ -8,7 +8,7 @@ mod measure;
 #[path = "../../proved/mod.rs"]
 mod proved;
 
-use measure::{hold_memory, judged, translated, Asked, Timed};
+use measure::{hold_memory, judged, ordered, translated, Asked, Timed};
 use second::generate::slow::{Slow, BOTH, SHEETS};
 use second::generate::{jobs, load};
 use second::layout::Kind;
@@ -160,6 +160,16 @@ impl Bench {
         }
     }
 
+    /// The same input by order and by the main judge.
+    fn by_order(&self, title: &str, input: &(Vec<u32>, Vec<u32>)) {
+        self.head(title);
+        let (by_order, main) = (ordered(input), judged(Asked::BOTH, Kind::Book, input));
+        self.print("by order", &by_order, None);
+        self.print("main judge", &main, None);
+        let ratios = [over(by_order.proved, main.proved), over(by_order.second, main.second)];
+        println!("by order to main judge: proved {}, second {}", ratios[0], ratios[1]);
+    }
+
     fn all(&mut self) {
         self.first_rows();
         if self.wanted("d") {
@@ -180,6 +190,12 @@ impl Bench {
         for (row, one) in jobs::SLOW.iter().filter(|(row, _)| self.wanted(row)) {
             let title = format!("{row}. {}", one.name);
             self.over_lengths(&title, Kind::Book, &LENGTHS[2..], |n| (one.make)(Kind::Book, n));
+        }
+        if self.wanted("k") {
+            let largest = (load::largest_order_book(), load::staggered_plan());
+            self.by_order("k. largest book and plan, as many ranks as there can be", &largest);
+            let rules = load::one_name_by_order();
+            self.by_order("k. 64 rules over 15 lines of 512, 16,384 triggers", &rules);
         }
     }
 }

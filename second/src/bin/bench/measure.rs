@@ -3,7 +3,8 @@
 
 use crate::proved;
 use second::layout::Kind;
-use second::words::to_bytes;
+use second::order::judge_by_order;
+use second::words::{from_bytes, to_bytes};
 use second::{bytes, Answer};
 use std::hint::black_box;
 use std::time::{Duration, Instant};
@@ -115,6 +116,17 @@ pub fn judged(asked: Asked, kind: Kind, (book, plan): &(Vec<u32>, Vec<u32>)) -> 
     measure(asked, &mut || by_proved(black_box(&book), black_box(&plan)), &mut || {
         by_second(black_box(&book), black_box(&plan))
     })
+}
+
+/// Judging by order.
+pub fn ordered((book, plan): &(Vec<u32>, Vec<u32>)) -> Timed {
+    let by_second = |book: &[u8], plan: &[u8]| judge_by_order(&from_bytes(book), &from_bytes(plan));
+    let (book, plan) = (to_bytes(book), to_bytes(plan));
+    measure(
+        Asked::BOTH,
+        &mut || proved::order::judge_by_order(black_box(&book), black_box(&plan)),
+        &mut || by_second(black_box(&book), black_box(&plan)),
+    )
 }
 
 pub fn translated(sheet: &[u32]) -> Timed {

@@ -8,6 +8,7 @@ mod both;
 mod cases;
 mod desks;
 mod jobs;
+mod order;
 mod part;
 mod plan_end;
 #[path = "../../proved/mod.rs"]
@@ -21,7 +22,8 @@ use std::process::exit;
 use std::time::Instant;
 use tally::Door;
 
-const PARTS: &[&Part] = &[&cases::BASE, &plan_end::PART, &jobs::PART, &desks::PART, &removal::PART];
+const PARTS: &[&Part] =
+    &[&cases::BASE, &plan_end::PART, &jobs::PART, &desks::PART, &removal::PART, &order::PART];
 const SEED: u64 = 20_250_101;
 
 fn usage() -> ! {

@@ -1,0 +1,5 @@
+-- The definitions that the contracts of `order` cite.
+pub mod Profile
+pub mod Ranked
+pub mod Judged
+pub mod Numbered

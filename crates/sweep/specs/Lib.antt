@@ -1,0 +1,4 @@
+-- The definitions that the contracts of `sweep` cite.
+pub mod Stands
+pub mod Ranks
+pub mod Sweeps
