@@ -3,7 +3,7 @@ PREFIX ?= /usr/local
 to = $(DESTDIR)$(abspath $(PREFIX))
 
 # the crates with exported functions, each built by itself; the library holds them all
-parts = front_judge front_reader front_desks front_removal front_order front_narrow front_earliest
+parts = front_judge front_reader front_desks front_removal front_order front_written front_read front_narrow front_earliest
 
 .PHONY: demo test check lib programs install bench stack believed
 
@@ -25,7 +25,7 @@ lib:
 	ar rcs target/lib/libtteokbiran.a target/lib/objects/*.o
 
 programs:
-	rt check judge translate forecast
+	rt check judge translate forecast events
 
 # header, library, pkg-config file and programs, below PREFIX
 install: lib programs
@@ -33,7 +33,7 @@ install: lib programs
 	install -m 644 include/tteokbiran.h $(to)/include
 	install -m 644 target/lib/libtteokbiran.a $(to)/lib
 	sed 's|@PREFIX@|$(abspath $(PREFIX))|' include/tteokbiran.pc.in >$(to)/lib/pkgconfig/tteokbiran.pc
-	install -m 755 target/bin/judge target/bin/translate target/bin/forecast $(to)/bin
+	install -m 755 target/bin/judge target/bin/translate target/bin/forecast target/bin/events $(to)/bin
 
 # the proved library against the second judge, in one run on the same inputs
 bench: lib

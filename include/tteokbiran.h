@@ -68,6 +68,19 @@ void tteokbiran_earliest(const uint8_t *book, size_t book_len, uint32_t alternat
 void tteokbiran_remove_rules(uint32_t *book, size_t book_len, uint32_t *desks, size_t desks_len, const uint32_t *list, size_t list_len,
                              uint32_t *number, uint32_t *a, uint32_t *b, uint32_t *c);
 
+/* Writes the plan as events in time order, in lent words: edition, total words, number of events; then for each event the delay since the
+ * event before, the number of actions, and for each action timeline, value, 0 for end or 1 for start, and in edition 2 the job. Answers 1 to
+ * 11 and 18, then 21 with the words needed in a, else 0 with the words written in a; 65,367 words are room enough for any plan. The words
+ * behind those written are as they were; on a refusal all of room is. */
+void tteokbiran_write_events(const uint8_t *book, size_t book_len, const uint8_t *plan, size_t plan_len, uint32_t *room, size_t room_len,
+                             uint32_t *number, uint32_t *a, uint32_t *b, uint32_t *c);
+
+/* Reads a list of events, here as words, back into the plan's words. Answers 1 to 4 for the book; 20 for any list that the function above
+ * couldn't have written by this book, one with words behind its end too; then 21 with the words needed in a, else 0 with the words written
+ * in a; 16,384 words are room enough for any list. The words behind those written are as they were; on a refusal all of room is. */
+void tteokbiran_read_events(const uint8_t *book, size_t book_len, const uint32_t *list, size_t list_len, uint32_t *room, size_t room_len,
+                            uint32_t *number, uint32_t *a, uint32_t *b, uint32_t *c);
+
 /* Whether the bytes are a sound book that speaks only of order: every atom has the bounds (0, N), (1, N) or (0, 0), and none has a time point or
  * the end of the plan. N is 4,294,967,295. */
 bool tteokbiran_order_only(const uint8_t *book, size_t book_len);

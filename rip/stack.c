@@ -16,7 +16,7 @@
 
 /* the files of the folder, also as words, and where the answers go */
 static uint8_t book[MOST], sheet[MOST], plan[MOST];
-static uint32_t book_words[MOST / 4], plan_words[MOST / 4], room[16384], list[32];
+static uint32_t book_words[MOST / 4], plan_words[MOST / 4], room[16384], list[65536];
 static size_t book_len, sheet_len, plan_len;
 static uint32_t number, a, b, c, token, value, job;
 static uint32_t table[25];
@@ -47,6 +47,13 @@ static void remove_rules(void) {
     tteokbiran_remove_rules(room, book_len / 4 < 16384 ? book_len / 4 : 16384, desks, rules < 64 ? rules : 64, list, n, &number, &a, &b, &c);
 }
 
+static void write_events(void) { tteokbiran_write_events(book, book_len, plan, plan_len, list, 65536, &number, &a, &b, &c); }
+
+static void read_events(void) {
+    write_events();
+    tteokbiran_read_events(book, book_len, list, number == 0 ? a : 0, room, 16384, &number, &a, &b, &c);
+}
+
 static void order_only(void) { tteokbiran_order_only(book, book_len); }
 
 static void judge_by_order(void) { tteokbiran_judge_by_order(book, book_len, plan, plan_len, &number, &a, &b, &c); }
@@ -71,6 +78,7 @@ static struct {
     {"tteokbiran_judge", judge, 0, ""},   {"tteokbiran_judge_sheet", judge_sheet, 0, ""}, {"tteokbiran_translate", translate, 0, ""},
     {"tteokbiran_narrow", narrow, 0, ""}, {"tteokbiran_earliest", earliest, 0, ""},       {"tteokbiran_open", open_last, 0, ""},
     {"tteokbiran_step", step_all, 0, ""}, {"tteokbiran_judge_desk", judge_desk, 0, ""},   {"tteokbiran_remove_rules", remove_rules, 0, ""},
+    {"tteokbiran_write_events", write_events, 0, ""}, {"tteokbiran_read_events", read_events, 0, ""},
     {"tteokbiran_order_only", order_only, 0, ""},   {"tteokbiran_judge_by_order", judge_by_order, 0, ""},
 };
 

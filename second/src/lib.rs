@@ -4,6 +4,7 @@
 pub mod decode;
 pub mod desks;
 pub mod earliest;
+pub mod events;
 pub mod generate;
 pub mod layout;
 pub mod narrow;

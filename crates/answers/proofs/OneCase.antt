@@ -5,7 +5,7 @@ use mathlib.Core.List.{[], _∷_}
 use lib.ListN.{getD}
 use Rattle.answers.specs.declared.Numbers.{Numbers}
 use Rattle.answers.specs.declared.Answer.{Answer}
-use Rattle.answers.specs.declared.Answer.the-variants.{Done, BookLength, BookHeader, BookEnd, BookRecord, PlanLength, PlanHeader, PlanEnd, ValueUnknown, DurationOutside, NotSuccessor, PastLastTick, RuleNotMet, TooManyAlternatives, TooLong, RoomTooShort, NoSuchTimeline, EndsApart, NoSuchDesk, NoSuchRules, NotOrderOnly, NoSuchAlternative, TableTooShort}
+use Rattle.answers.specs.declared.Answer.the-variants.{Done, BookLength, BookHeader, BookEnd, BookRecord, PlanLength, PlanHeader, PlanEnd, ValueUnknown, DurationOutside, NotSuccessor, PastLastTick, RuleNotMet, TooManyAlternatives, TooLong, RoomTooShort, NoSuchTimeline, EndsApart, NoSuchDesk, NotAnEventList, EventRoomTooShort, NoSuchRules, NotOrderOnly, NoSuchAlternative, TableTooShort}
 use Rattle.answers.specs.Numbers.{numbersOf}
 
 -- the answer with these numbers
@@ -33,9 +33,9 @@ answerOf x =
     ∷ NoSuchTimeline
     ∷ EndsApart (x .a)
     ∷ NoSuchDesk
-    -- 20 to 23 aren't used
-    ∷ BookLength
-    ∷ BookLength
+    ∷ NotAnEventList
+    ∷ EventRoomTooShort (x .a)
+    -- 22 and 23 aren't used
     ∷ BookLength
     ∷ BookLength
     ∷ NoSuchRules
@@ -66,6 +66,8 @@ answer-back (RoomTooShort words) = refl
 answer-back NoSuchTimeline = refl
 answer-back (EndsApart timeline) = refl
 answer-back NoSuchDesk = refl
+answer-back NotAnEventList = refl
+answer-back (EventRoomTooShort words) = refl
 answer-back NoSuchRules = refl
 answer-back NotOrderOnly = refl
 answer-back NoSuchAlternative = refl

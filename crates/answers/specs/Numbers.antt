@@ -8,7 +8,7 @@ use lib.Dec.{eqb}
 use borrow.Author.Tests.{eq-eqb, ne-eqb, eqb-true, eqb-false}
 use Rattle.answers.specs.declared.Numbers.{Numbers}
 use Rattle.answers.specs.declared.Answer.{Answer}
-use Rattle.answers.specs.declared.Answer.the-variants.{Done, BookLength, BookHeader, BookEnd, BookRecord, PlanLength, PlanHeader, PlanEnd, ValueUnknown, DurationOutside, NotSuccessor, PastLastTick, RuleNotMet, TooManyAlternatives, TooLong, RoomTooShort, NoSuchTimeline, EndsApart, NoSuchDesk, NoSuchRules, NotOrderOnly, NoSuchAlternative, TableTooShort}
+use Rattle.answers.specs.declared.Answer.the-variants.{Done, BookLength, BookHeader, BookEnd, BookRecord, PlanLength, PlanHeader, PlanEnd, ValueUnknown, DurationOutside, NotSuccessor, PastLastTick, RuleNotMet, TooManyAlternatives, TooLong, RoomTooShort, NoSuchTimeline, EndsApart, NoSuchDesk, NotAnEventList, EventRoomTooShort, NoSuchRules, NotOrderOnly, NoSuchAlternative, TableTooShort}
 
 -- "Each answer is three numbers: number, a, b"; "Refusal 4 gets one more number, c"
 abbrev pub numbersAt : ℕ → ℕ → ℕ → ℕ → Numbers
@@ -39,6 +39,8 @@ numbersOf (RoomTooShort words) = numbers 15 words 0
 numbersOf NoSuchTimeline = numbers 17 0 0
 numbersOf (EndsApart timeline) = numbers 18 timeline 0
 numbersOf NoSuchDesk = numbers 19 0 0
+numbersOf NotAnEventList = numbers 20 0 0
+numbersOf (EventRoomTooShort words) = numbers 21 words 0
 numbersOf NoSuchRules = numbers 24 0 0
 numbersOf NotOrderOnly = numbers 26 0 0
 numbersOf NoSuchAlternative = numbers 27 0 0

@@ -42,7 +42,7 @@ pub fn judge(book: &[u8], plan: &[u8]) {
 }
 
 // The first n words of s, or all where there are fewer.
-fn first_words(s: &[u32], n: usize) -> &[u32]
+pub fn first_words(s: &[u32], n: usize) -> &[u32]
     ensures { λ r. ⌜ now r ≡ take n (now (s .entry)) ⌝ }
 {
     if n < s.len() {
@@ -52,7 +52,7 @@ fn first_words(s: &[u32], n: usize) -> &[u32]
 }
 
 // The first n bytes of s, or all where there are fewer.
-fn first_bytes(s: &[u8], n: usize) -> &[u8]
+pub fn first_bytes(s: &[u8], n: usize) -> &[u8]
     ensures { λ r. ⌜ now r ≡ take n (now (s .entry)) ⌝ }
 {
     if n < s.len() {

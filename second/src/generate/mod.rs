@@ -2,6 +2,7 @@
 
 pub mod damage;
 pub mod draft;
+pub mod events;
 pub mod extreme;
 pub mod jobs;
 pub mod load;

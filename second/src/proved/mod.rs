@@ -3,6 +3,7 @@
 #![allow(dead_code, unused_imports)] // not every program asks everything
 
 pub mod desks;
+pub mod events;
 pub mod order;
 pub mod removal;
 

@@ -7,6 +7,7 @@
 mod both;
 mod cases;
 mod desks;
+mod events;
 mod jobs;
 mod order;
 mod part;
@@ -22,8 +23,15 @@ use std::process::exit;
 use std::time::Instant;
 use tally::Door;
 
-const PARTS: &[&Part] =
-    &[&cases::BASE, &plan_end::PART, &jobs::PART, &desks::PART, &removal::PART, &order::PART];
+const PARTS: &[&Part] = &[
+    &cases::BASE,
+    &plan_end::PART,
+    &jobs::PART,
+    &desks::PART,
+    &removal::PART,
+    &order::PART,
+    &events::PART,
+];
 const SEED: u64 = 20_250_101;
 
 fn usage() -> ! {

@@ -1,0 +1,2 @@
+-- The laws of `events_read`.
+pub mod Read

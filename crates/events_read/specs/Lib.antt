@@ -1,0 +1,2 @@
+-- The definitions that the contracts of `events_read` cite.
+pub mod Found

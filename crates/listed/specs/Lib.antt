@@ -1,0 +1,2 @@
+-- The definitions that the contracts of `listed` cite.
+pub mod Ready

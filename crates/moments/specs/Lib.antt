@@ -1,0 +1,2 @@
+-- The definitions that the contracts of `moments` cite.
+pub mod State

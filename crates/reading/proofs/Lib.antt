@@ -1,0 +1,3 @@
+-- The laws of `reading`.
+pub mod Laws
+pub mod Whole

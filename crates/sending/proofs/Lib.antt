@@ -1,0 +1,2 @@
+-- The laws of `sending`.
+pub mod Laws
