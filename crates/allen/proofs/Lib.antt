@@ -1,2 +1,3 @@
 -- What the proofs of `allen` use.
 mod Laws
+pub mod One

@@ -5,7 +5,8 @@ use native.Mathlib.Nat.{add-zero, mul-zero}
 use mathlib.Core.List.{List, [], _∷_, _++_, flatMap}
 use lib.ListN.{length, getD}
 use lib.Seq.{getD-drop}
-use Rattle.words.specs.Runs.{run, Stands, stands-first, stands-second, stands-whole, length-flat, rows, length-rows, run-back, run-pieces}
+use Rattle.words.specs.Runs.{run, Stands, rows}
+use Rattle.words.proofs.Runs.{stands-first, stands-second, stands-whole, length-flat, length-rows, run-back, run-pieces}
 use Rattle.words.specs.Words.{word}
 use Rattle.layout.specs.Layout.{count, offset}
 use Rattle.book.specs.Rules.{Name, Atom, Constraint, Alternative, Rule, Fifth, nameAt, atomAt, constraintAt, alternativeAt, ruleAt, rulesOf}

@@ -8,8 +8,9 @@ use lib.Dec.{ltb}
 use lib.ListN.{length, getD}
 use borrow.Author.Tests.{ltb-false, le-ltb, eqb-true, eq-eqb}
 use Rattle.answers.specs.declared.Numbers.{Numbers}
-use Rattle.answers.specs.Numbers.{noFault, orElse, stages, stage, stage-at, held}
-use Rattle.words.specs.Least.{none-below}
+use Rattle.answers.specs.Numbers.{noFault, orElse}
+use Rattle.answers.proofs.Stages.{stages, stage, stage-at, held}
+use Rattle.words.proofs.Least.{none-below}
 use Rattle.layout.specs.Layout.{count, ending, headerWrong}
 use Rattle.layout.proofs.Tests.{or-right}
 use Rattle.records.specs.Wrong.{recordTests, recordWrong}

@@ -8,7 +8,8 @@ use native.Mathlib.Omega.{arith}
 use lib.ListN.{length}
 use borrow.Author.Tests.{ltb-true, ltb-false, lt-ltb, le-ltb, ne-eqb}
 use Rattle.words.specs.Words.{word}
-use Rattle.words.specs.Least.{least, Clear, least-law, least-at}
+use Rattle.words.specs.Least.{least, Clear}
+use Rattle.words.proofs.Least.{least-law, least-at}
 use Rattle.layout.specs.Layout.{fifthWidth, width, count, offset, ending, begins, recordAt, field, ends, starts, reaches, owner}
 use Rattle.layout.proofs.Bounds.{tables}
 use Rattle.records.specs.Wrong.{Range}

@@ -9,7 +9,8 @@ use native.Mathlib.Omega.{arith}
 use lib.ListN.{length, getD}
 use borrow.Author.Tests.{leb-false, lt-leb, eq-eqb, ne-eqb}
 use Rattle.words.specs.Words.{word}
-use Rattle.words.specs.Lists.{All, all-get}
+use Rattle.words.specs.Lists.{All}
+use Rattle.words.proofs.Lists.{all-get}
 use Rattle.clock.specs.Clock.{noLimit}
 use Rattle.layout.specs.Layout.{fewest, most, count, offset, begins, headerWrong, recordAt, field}
 use Rattle.layout.proofs.Tests.{or-right, plain}

@@ -4,7 +4,8 @@ use mathlib.Core.List.{List}
 use Prim.Native.Nat.{ℕ, _≤_, _<_}
 use borrow.Author.Tests.{lt-ltb, le-ltb}
 use Rattle.answers.specs.declared.Numbers.{Numbers}
-use Rattle.answers.specs.Numbers.{numbersAt, noFault, orElse, else-fault, else-next}
+use Rattle.answers.specs.Numbers.{numbersAt, noFault, orElse}
+use Rattle.answers.proofs.Stages.{else-fault, else-next}
 use Rattle.layout.specs.Fault.{layoutFault}
 use Rattle.layout.specs.Owner.{Within}
 use Rattle.layout.proofs.Order.{else-else, all-within}

@@ -6,8 +6,10 @@ use mathlib.Core.List.{List, [], _∷_, map}
 use Prim.Native.Nat.{ℕ, zero, suc, _+_, _*_}
 use lib.Dec.{eqb}
 use Rattle.words.specs.Words.{word}
-use Rattle.words.specs.Lists.{any, all, any-same}
-use Rattle.words.specs.Runs.{run, run-same}
+use Rattle.words.specs.Lists.{any, all}
+use Rattle.words.proofs.Lists.{any-same}
+use Rattle.words.specs.Runs.{run}
+use Rattle.words.proofs.Runs.{run-same}
 use Rattle.layout.specs.Layout.{fifthWidth, offset}
 use Rattle.book.specs.Rules.{Name, Alternative, Rule, Fifth, nameAt, alternativeAt, ruleAt}
 use Rattle.book.specs.Encode.{atoms, constraints}

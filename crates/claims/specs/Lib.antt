@@ -14,19 +14,12 @@ pub mod Editions
 pub mod FaultsOfRules
 pub mod FaultsOfTranslation
 pub mod Taken
-pub mod TranslatedGood
 pub mod SoundWords
 pub mod Files
 pub mod Specimens
 pub mod Inputs
-pub mod Limits
-pub mod Examples
 pub mod RunningSums
-pub mod Laws
 pub mod Stages
-pub mod WrongTests
-pub mod RecordTests
-pub mod FaultsOfTables
 pub mod FaultsOfTokens
 pub mod Timelines
 pub mod Matched
@@ -35,6 +28,4 @@ pub mod RulesMet
 pub mod Expansion
 pub mod Decoded
 pub mod SamePlan
-pub mod Translated
-pub mod FewAtoms
 pub mod TranslatedRules

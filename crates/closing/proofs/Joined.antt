@@ -7,7 +7,8 @@ use native.Mathlib.Nat.{add-zero, zero-add, mul-zero, mul-suc, mul-add, suc-mul,
 use native.Mathlib.Omega.{arith}
 use lib.ListN.{length}
 use Rattle.words.specs.Words.{word}
-use Rattle.words.specs.Runs.{run, length-run}
+use Rattle.words.specs.Runs.{run}
+use Rattle.words.proofs.Runs.{length-run}
 use Rattle.layout.specs.Layout.{width, count, offset, recordAt, field, starts}
 use Rattle.book.specs.Rules.{Atom, Alternative, Rule, nameAt, atomAt, alternativeAt, ruleAt, rulesOf}
 use Rattle.book.specs.Encode.{atoms, altsOf, namesOf, asksOf}

@@ -7,7 +7,8 @@ use native.Mathlib.Omega.{arith}
 use lib.ListN.{length, getD, length-append}
 use Rattle.words.specs.Words.{word}
 use Rattle.words.specs.Write.{Has}
-use Rattle.words.specs.Runs.{rows, length-run}
+use Rattle.words.specs.Runs.{rows}
+use Rattle.words.proofs.Runs.{length-run}
 use Rattle.layout.specs.Layout.{offset}
 use Rattle.book.specs.Rules.{ruleAt, alternativeAt}
 use Rattle.book.specs.Encode.{atoms}

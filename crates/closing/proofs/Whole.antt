@@ -9,8 +9,10 @@ use native.Mathlib.Omega.{arith}
 use lib.ListN.{length, take, drop, length-append, length-drop, length-map}
 use lib.Seq.{take-all, take-at, take-add, drop-drop, length-take-le}
 use Rattle.words.specs.Words.{word}
-use Rattle.words.specs.Write.{Has, Wrote, puts, puts-eq, length-puts}
-use Rattle.words.specs.Runs.{run, length-run, length-rows, length-flat}
+use Rattle.words.specs.Write.{Has, Wrote, puts}
+use Rattle.words.proofs.Write.{puts-eq, length-puts}
+use Rattle.words.specs.Runs.{run}
+use Rattle.words.proofs.Runs.{length-run, length-rows, length-flat}
 use Rattle.layout.specs.Layout.{count, offset}
 use Rattle.book.specs.Rules.{Atom, Alternative, Rule, nameAt, atomAt, alternativeAt, ruleAt}
 use Rattle.book.specs.Encode.{atoms, nameWords, atomWords, ruleRow, ruleNext, ruleRows, alternativeRow, alternativeNext, alternativeRows, altsOf, namesOf, asksOf, bookOf}

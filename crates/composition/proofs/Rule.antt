@@ -13,7 +13,7 @@ use Rattle.words.specs.Words.{inSet}
 use Rattle.words.specs.Lists.{all}
 use Rattle.words.specs.Least.{first}
 use Rattle.allen.specs.Relation.{relationOf}
-use Rattle.allen.specs.One.{like-relation, relation-below}
+use Rattle.allen.proofs.One.{like-relation, relation-below}
 use Rattle.composition.specs.Sets.{down, unions}
 use Rattle.composition.proofs.Sets.{in-unions, in-given, in-bit, in-none, any-found, found-any, all-at, all-at-2, both}
 use Rattle.composition.proofs.Ranks.{place, rank-stretch, rank-below, rank-like}

@@ -9,7 +9,8 @@ use lib.ListN.{length, getD}
 use borrow.Author.Count.{below-more}
 use borrow.Author.Tests.{eq-eqb, ne-eqb, leb-true, le-leb}
 use Rattle.words.specs.Words.{word}
-use Rattle.words.specs.Lists.{all, and-false}
+use Rattle.words.specs.Lists.{all}
+use Rattle.words.proofs.Lists.{and-false}
 use Rattle.layout.specs.Layout.{count}
 use Rattle.desks.specs.List.{listRight}
 

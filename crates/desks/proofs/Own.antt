@@ -9,7 +9,7 @@ use lib.ListN.{length, getD, drop, drop-of-length-le}
 use lib.Seq.{drop-cons}
 use borrow.Author.Tests.{eq-eqb, ne-eqb}
 use Rattle.words.specs.Words.{word}
-use Rattle.words.specs.Runs.{run-at, length-run}
+use Rattle.words.proofs.Runs.{run-at, length-run}
 use Rattle.answers.specs.Numbers.{numbers}
 use Rattle.layout.specs.Layout.{count, offset, recordAt}
 use Rattle.book.specs.Rules.{Rule, ruleAt, rulesOf}

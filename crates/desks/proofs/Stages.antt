@@ -7,7 +7,8 @@ use Prim.Native.Nat.{ℕ, _^_, _<_}
 use native.Mathlib.Omega.{arith}
 use lib.Dec.{leb}
 use Rattle.answers.specs.declared.Numbers.{Numbers}
-use Rattle.answers.specs.Numbers.{numbers, noFault, else-fault, else-next}
+use Rattle.answers.specs.Numbers.{numbers, noFault}
+use Rattle.answers.proofs.Stages.{else-fault, else-next}
 use Rattle.layout.specs.Layout.{count, offset}
 use Rattle.book.specs.Rules.{rulesOf}
 use Rattle.book.specs.Encode.{atoms}

@@ -4,7 +4,6 @@
 -- and EasingLaws are the laws that these rest on, Removing says that taking rules out by number is such an easing.
 pub mod Accepted
 pub mod Faults
-pub mod Undivided
 pub mod Undisturbed
 pub mod Eased
 pub mod Easing
@@ -12,6 +11,4 @@ pub mod Specimens
 pub mod Examples
 pub mod EasingExamples
 pub mod Numbering
-pub mod FirstUnmet
-pub mod EasingLaws
 pub mod Removing

@@ -11,7 +11,7 @@ use borrow.Author.Tests.{eq-eqb, ne-eqb}
 use Rattle.answers.specs.declared.Numbers.{Numbers}
 use Rattle.answers.specs.Numbers.{numbersAt, numbers}
 use Rattle.words.specs.Words.{word}
-use Rattle.words.specs.Runs.{length-run}
+use Rattle.words.proofs.Runs.{length-run}
 use Rattle.clock.specs.Clock.{noLimit}
 use Rattle.layout.specs.Layout.{count}
 use Rattle.book.specs.Rules.{nameAt, alternativeAt, ruleAt}

@@ -7,7 +7,8 @@ use Prim.Native.Nat.{ℕ, zero, suc, _+_, _*_, _≤_, _<_}
 use native.Mathlib.Omega.{arith}
 use lib.ListN.{length, getD}
 use Rattle.words.specs.Words.{word}
-use Rattle.words.specs.Runs.{run, length-run, run-at}
+use Rattle.words.specs.Runs.{run}
+use Rattle.words.proofs.Runs.{length-run, run-at}
 use Rattle.clock.specs.Clock.{noLimit}
 use Rattle.layout.specs.Layout.{fifthWidth, count, offset, recordAt, field, owner, valuesOf}
 use Rattle.book.specs.Rules.{valueAt, variableAt, nameAt, atomAt, alternativeAt, ruleAt, variablesOf}

@@ -5,7 +5,8 @@ use Prim.Native.Nat.{ℕ, _+_, _*_, _≤_, _<_}
 use native.Mathlib.Omega.{arith}
 use borrow.Author.Tests.{lt-ltb, le-ltb}
 use Rattle.words.specs.Words.{word}
-use Rattle.words.specs.Least.{Clear, clear-more, least-at, least-end}
+use Rattle.words.specs.Least.{Clear}
+use Rattle.words.proofs.Least.{clear-more, least-at, least-end}
 use Rattle.layout.specs.Layout.{count, ends, reaches, owner}
 use Rattle.earliest.specs.declared.Trigger.{Trigger}
 use Rattle.earliest.specs.declared.Places.{Places}

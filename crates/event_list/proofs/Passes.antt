@@ -11,7 +11,8 @@ use lib.ListN.{length, getD, length-append, drop-of-length-le}
 use lib.Seq.{getD-drop}
 use borrow.Author.Tests.{le-leb, lt-leb, ne-eqb}
 use Rattle.words.specs.Words.{word}
-use Rattle.words.specs.Runs.{length-flat, Stands, stands-first, stands-second, stands-move}
+use Rattle.words.specs.Runs.{Stands}
+use Rattle.words.proofs.Runs.{length-flat, stands-first, stands-second, stands-move}
 use Rattle.event_list.specs.Events.{PlanToken, Action, Event, Line, planToken}
 use Rattle.event_list.specs.Words.{actionWidth, actionWords, eventWords, listWords}
 use Rattle.event_list.specs.Reading.{actionJob, endsHere, addTicks, nextPlace, nextLeft, closes, nextTicks, closed, readFrom, readLine}

@@ -9,7 +9,8 @@ use lib.Dec.{eqb}
 use lib.ListN.{length, drop, drop-of-length-le}
 use lib.Seq.{drop-cons}
 use Rattle.words.specs.Words.{word}
-use Rattle.words.specs.Runs.{run, length-run}
+use Rattle.words.specs.Runs.{run}
+use Rattle.words.proofs.Runs.{length-run}
 use Rattle.lines.specs.Lines.{lineFirst, lineCount, linePlace, tokenWidth, jobAt}
 use Rattle.event_list.specs.Events.{Line, planToken}
 use Rattle.event_list.specs.Plans.{tokenAt, lineTokens, planLines, tokenWords, lineWords, headWords, planWords}

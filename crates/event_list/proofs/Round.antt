@@ -6,7 +6,7 @@ use native.Mathlib.Nat.{zero-add, mul-one}
 use native.Mathlib.Omega.{arith}
 use lib.ListN.{length, getD}
 use Rattle.words.specs.Words.{word}
-use Rattle.words.specs.Runs.{run-at}
+use Rattle.words.proofs.Runs.{run-at}
 use Rattle.layout.specs.Layout.{count}
 use Rattle.event_list.specs.Events.{eventsOf}
 use Rattle.event_list.specs.Words.{listWords}

@@ -10,8 +10,8 @@ use lib.Dec.{eqb}
 use lib.ListN.{length, set, length-append}
 use borrow.Author.Tests.{eqb-true, eq-eqb}
 use Rattle.words.specs.Words.{word}
-use Rattle.words.specs.Lists.{and-true, and-assoc}
-use Rattle.words.specs.Write.{puts-append}
+use Rattle.words.proofs.Lists.{and-true, and-assoc}
+use Rattle.words.proofs.Write.{puts-append}
 use Rattle.event_list.specs.Sends.{agrees, Sends, isWords}
 
 agrees-append : (list : List ℕ) (at : ℕ) (xs ys : List ℕ) → agrees list at (xs ++ ys) ≡ (agrees list at xs && agrees list (at + length xs) ys)

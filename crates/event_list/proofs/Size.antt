@@ -13,7 +13,8 @@ use lib.ListN.{length, length-append, length-map}
 use borrow.Author.Tests.{eqb-true, eqb-false, eq-eqb, ne-eqb, le-leb}
 use Rattle.words.specs.Words.{word}
 use Rattle.words.specs.Lists.{All}
-use Rattle.words.specs.Runs.{run, length-flat}
+use Rattle.words.specs.Runs.{run}
+use Rattle.words.proofs.Runs.{length-flat}
 use Rattle.lines.specs.Lines.{tokenWidth}
 use Rattle.lines.proofs.Width.{width-two, width-three}
 use Rattle.event_list.specs.Events.{Event, Line, planToken, event, end, toRun, startOn, changeOn, later, byLine, soonest, sweep, lineTicks, planTicks, eventsOf}

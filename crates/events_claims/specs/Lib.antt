@@ -2,13 +2,11 @@
 -- event sequences (Sequences), rule graphs and their matching (Graphs), that a plan's events are such a sequence (Closed, over Times and Tokens), and
 -- Lemma 4.6 (Rules, over Lemma); the specimens, and an input for each claim (Examples).
 pub mod Answers
-pub mod Round
 pub mod Meaning
 pub mod Sequences
 pub mod Graphs
 pub mod Times
 pub mod Tokens
-pub mod Closed
 pub mod Lemma
 pub mod Rules
 pub mod Specimens

@@ -1,30 +1,15 @@
--- The specimens of L6, as two tables: antt computes each answer and each room afterwards, and they are those stated. Assumes nothing.
-use mathlib.Core.Path.{_≡_, refl}
-use mathlib.Core.Bool.{Bool, true, _&&_}
-use mathlib.Core.List.{List, [], _∷_, _++_, flatMap}
+-- What the theorems of proofs/Specimens are said in. Assumes nothing.
+use mathlib.Core.Bool.{Bool, _&&_}
+use mathlib.Core.List.{List, [], _∷_, _++_}
 use Prim.Native.Nat.{ℕ, zero, suc}
 use lib.ListN.{length, take, drop, set}
 use Rattle.answers.specs.declared.Numbers.{Numbers}
-use Rattle.answers.specs.Numbers.{numbers, orElse}
-use Rattle.words.specs.Words.{inSet}
-use Rattle.words.specs.Lists.{any, all}
-use Rattle.words.specs.Least.{least, first}
-use Rattle.words.specs.Runs.{run}
-use Rattle.clock.specs.Clock.{noLimit, inBounds}
-use Rattle.layout.specs.Layout.{fifthWidth, fifthMost, begins, headerWrong, starts, owner}
-use Rattle.records.specs.Wrong.{setWrong, valueTests, fifthTestsOf, fifthTests, wrongWord, recordWrong}
-use Rattle.book.specs.Fault.{leaves, tableWrong, toldWord}
+use Rattle.answers.specs.Numbers.{numbers}
+use Rattle.clock.specs.Clock.{noLimit}
 use Rattle.book.specs.Fault as book
 use Rattle.book.proofs.Specimen.{bookE, same}
-use Rattle.lines.specs.Lines.{tokenWidth, jobAt, tokensFrom, lineOf}
-use Rattle.lines.specs.Ends.{endFrom, endsApart, endsFault}
-use Rattle.plan.specs.Fault as plan
-use Rattle.event_list.specs.Events.{toRun, startOn, changeOn, later, byLine, soonest, sweep, lineTicks, planTicks, eventsOf}
-use Rattle.event_list.specs.Words.{actionWidth, actionWords, eventWords, listWords}
-use Rattle.event_list.specs.Plans.{lineTokens, planLines, tokenWords, lineWords, headWords, planWords, listOf}
-use Rattle.event_list.specs.Reading.{actionJob, endsHere, addTicks, nextPlace, nextLeft, closes, nextTicks, closed, readFrom, readLine, readLines, planFrom}
 use Rattle.event_list.specs.Sends.{isWords}
-use Rattle.event_list.specs.Answers.{writeFault, roomFault, into, roomAfter, writtenEvents, writtenRoom, couldBeWritten, listFault, readEvents, readRoom}
+use Rattle.event_list.specs.Answers.{writtenEvents, writtenRoom, readEvents, readRoom}
 
 -- a book, a plan or a list, and a lent room; the answer, and the room afterwards
 pub record Specimen : Type 0 where
@@ -128,12 +113,3 @@ listsRead =
     -- "1 to 4, then 20"
     ∷ row [] [] (filled 9 2) (numbers 1 0 0) (filled 9 2)
     ∷ []
-
--- THE TABLES stand
-pub all-written : all writes written ≡ true
-unfolding writes reads filled written listsRead writeFault roomFault into roomAfter writtenEvents writtenRoom couldBeWritten listFault readEvents readRoom isWords orElse toRun startOn changeOn later byLine soonest sweep lineTicks planTicks eventsOf actionWidth actionWords eventWords listWords lineTokens planLines tokenWords lineWords headWords planWords listOf actionJob endsHere addTicks nextPlace nextLeft closes nextTicks closed readFrom readLine readLines planFrom flatMap tokenWidth jobAt tokensFrom lineOf endFrom endsApart endsFault inBounds plan.planFault plan.lengthFault plan.headFault plan.endFault plan.tokensFault plan.sumBefore plan.headWrong plan.startOf plan.durationOutside plan.notSuccessor plan.tokenFault plan.tokenWrong plan.firstToken plan.lineWrong book.lengthFault book.headerFault book.endFault book.recordFault book.bookFault setWrong valueTests fifthTestsOf fifthTests first wrongWord recordWrong leaves tableWrong toldWord fifthWidth fifthMost begins headerWrong starts owner run least inSet any all
-all-written = refl
-
-pub all-read : all reads listsRead ≡ true
-unfolding writes reads filled written listsRead writeFault roomFault into roomAfter writtenEvents writtenRoom couldBeWritten listFault readEvents readRoom isWords orElse toRun startOn changeOn later byLine soonest sweep lineTicks planTicks eventsOf actionWidth actionWords eventWords listWords lineTokens planLines tokenWords lineWords headWords planWords listOf actionJob endsHere addTicks nextPlace nextLeft closes nextTicks closed readFrom readLine readLines planFrom flatMap tokenWidth jobAt tokensFrom lineOf endFrom endsApart endsFault inBounds plan.planFault plan.lengthFault plan.headFault plan.endFault plan.tokensFault plan.sumBefore plan.headWrong plan.startOf plan.durationOutside plan.notSuccessor plan.tokenFault plan.tokenWrong plan.firstToken plan.lineWrong book.lengthFault book.headerFault book.endFault book.recordFault book.bookFault setWrong valueTests fifthTestsOf fifthTests first wrongWord recordWrong leaves tableWrong toldWord fifthWidth fifthMost begins headerWrong starts owner run least inSet any all
-all-read = refl

@@ -10,9 +10,11 @@ use lib.ListN.{length, take, drop}
 use lib.Seq.{take-at}
 use borrow.Author.Tests.{eq-eqb, ne-eqb}
 use Rattle.words.specs.Words.{word}
-use Rattle.words.specs.Write.{puts, puts-eq, length-puts, Wrote}
+use Rattle.words.specs.Write.{puts, Wrote}
+use Rattle.words.proofs.Write.{puts-eq, length-puts}
 use Rattle.answers.specs.declared.Numbers.{Numbers}
-use Rattle.answers.specs.Numbers.{numbers, noFault, orElse, else-fault, else-next}
+use Rattle.answers.specs.Numbers.{numbers, noFault, orElse}
+use Rattle.answers.proofs.Stages.{else-fault, else-next}
 use Rattle.layout.specs.Layout.{count}
 use Rattle.book.specs.Fault.{bookFault}
 use Rattle.book.proofs.Good.{good, no-number}

@@ -6,7 +6,8 @@ use lib.ListN.{length}
 use Rattle.words.specs.Words.{word}
 use Rattle.words.specs.Write.{puts}
 use Rattle.answers.specs.declared.Numbers.{Numbers}
-use Rattle.answers.specs.Numbers.{numbers, stages}
+use Rattle.answers.specs.Numbers.{numbers}
+use Rattle.answers.proofs.Stages.{stages}
 use Rattle.event_list.specs.Plans.{listOf}
 use Rattle.event_list.specs.Answers.{writeFault, writtenEvents, writtenRoom}
 use Rattle.event_list.proofs.Good.{Writes, writes}

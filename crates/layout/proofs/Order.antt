@@ -8,8 +8,9 @@ use lib.Dec.{eqb}
 use borrow.Author.Tests.{eqb-true, not-false}
 use lib.ListN.{length}
 use Rattle.answers.specs.declared.Numbers.{Numbers}
-use Rattle.answers.specs.Numbers.{orElse, stages, stage, held}
-use Rattle.words.specs.Least.{none-below}
+use Rattle.answers.specs.Numbers.{orElse}
+use Rattle.answers.proofs.Stages.{stages, stage, held}
+use Rattle.words.proofs.Least.{none-below}
 use Rattle.layout.specs.Layout.{offset, ending, begins, headerWrong}
 use Rattle.layout.specs.Fault.{headerFault, endFault, layoutFault}
 use Rattle.layout.specs.Owner.{Within}

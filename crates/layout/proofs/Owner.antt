@@ -5,7 +5,7 @@ use mathlib.Core.List.{List}
 use Prim.Native.Nat.{ℕ, _+_, _≤_}
 use native.Mathlib.Omega.{arith}
 use borrow.Author.Tests.{le-ltb, ltb-false}
-use Rattle.words.specs.Least.{clear-none, least-law, least-ge}
+use Rattle.words.proofs.Least.{clear-none, least-law, least-ge}
 use Rattle.layout.specs.Layout.{count, ends, reaches, owner}
 use Rattle.layout.specs.Owner.{Cursor}
 

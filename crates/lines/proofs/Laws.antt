@@ -6,7 +6,7 @@ use native.Mathlib.Nat.{add-zero, zero-add}
 use native.Mathlib.Omega.{arith}
 use lib.ListN.{length, getD}
 use Rattle.words.specs.Words.{word}
-use Rattle.words.specs.Runs.{run-at, length-run}
+use Rattle.words.proofs.Runs.{run-at, length-run}
 use Rattle.lines.specs.declared.Token.{Token}
 use Rattle.lines.specs.Lines.{token, lineCount, tokenWidth, jobAt, linePlace, valueOf, durationOf, jobOf, startOf, tokensFrom, lineOf, linesOf}
 

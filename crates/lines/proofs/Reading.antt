@@ -5,7 +5,7 @@ use mathlib.Core.List.{List, []}
 use Prim.Native.Nat.{ℕ, zero, suc, _^_, _≤_, _<_}
 use native.Mathlib.Omega.{arith}
 use borrow.Author.Tests.{le-ltb}
-use Rattle.words.specs.Lists.{and-false}
+use Rattle.words.proofs.Lists.{and-false}
 use Rattle.clock.specs.Clock.{noLimit}
 use Rattle.lines.specs.declared.Token.{Token}
 use Rattle.lines.specs.declared.Position.{Position}

@@ -8,8 +8,9 @@ use native.Mathlib.Omega.{arith}
 use lib.Dec.{ltb}
 use lib.ListN.{length}
 use borrow.Author.Tests.{ltb-false, eqb-true, lt-ltb, le-ltb, eq-eqb, ne-eqb}
-use Rattle.answers.specs.Numbers.{numbers, noFault, orElse, stages, stage, held}
-use Rattle.words.specs.Least.{none-below}
+use Rattle.answers.specs.Numbers.{numbers, noFault, orElse}
+use Rattle.answers.proofs.Stages.{stages, stage, held}
+use Rattle.words.proofs.Least.{none-below}
 use Rattle.layout.specs.Layout.{count}
 use Rattle.layout.proofs.Tests.{or-right}
 use Rattle.lines.specs.Lines.{lineCount, tokenWidth, linePlace}

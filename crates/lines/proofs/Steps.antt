@@ -6,7 +6,7 @@ use lib.Dec.{leb}
 use lib.ListN.{length}
 use borrow.Author.Tests.{lt-ltb, le-ltb, le-leb, lt-leb}
 use Rattle.words.specs.Words.{word}
-use Rattle.words.specs.Lists.{and-false}
+use Rattle.words.proofs.Lists.{and-false}
 use Rattle.clock.specs.declared.Time.{Time}
 use Rattle.clock.specs.declared.Later.{Later}
 use Rattle.clock.specs.declared.Later.the-variants.{At, Past}

@@ -8,9 +8,11 @@ use native.Mathlib.Omega.{arith}
 use lib.ListN.{length, drop}
 use borrow.Author.Tests.{lt-ltb, le-ltb, eq-eqb, ne-eqb}
 use Rattle.words.specs.Words.{word}
-use Rattle.words.specs.Write.{puts, puts-eq}
+use Rattle.words.specs.Write.{puts}
+use Rattle.words.proofs.Write.{puts-eq}
 use Rattle.answers.specs.declared.Numbers.{Numbers}
-use Rattle.answers.specs.Numbers.{numbers, noFault, orElse, else-fault, else-next, stages}
+use Rattle.answers.specs.Numbers.{numbers, noFault, orElse}
+use Rattle.answers.proofs.Stages.{else-fault, else-next, stages}
 use Rattle.event_list.specs.Plans.{listOf}
 use Rattle.event_list.specs.Answers.{writeFault, roomFault, into, roomAfter}
 use Rattle.event_list.proofs.Good.{Writes, writes, in-time}

@@ -9,8 +9,10 @@ use lib.ListN.{length, getD, take, drop, set, length-append, length-take, drop-o
 use lib.Seq.{drop-cons, take-nil, take-at}
 use native.Mathlib.Numerals.{add-one}
 use Rattle.words.specs.Runs.{run}
-use Rattle.words.specs.Least.{first, first-hit, first-miss}
-use Rattle.words.specs.Write.{puts, puts-append, length-puts, Wrote, Has, then, puts-eq}
+use Rattle.words.specs.Least.{first}
+use Rattle.words.proofs.Least.{first-hit, first-miss}
+use Rattle.words.specs.Write.{puts, Wrote, Has}
+use Rattle.words.proofs.Write.{puts-append, length-puts, then, puts-eq}
 use Rattle.listing.specs.Items.{gather, upTo}
 
 -- of the words `all`, put into l₀ from at₀ on, those before `at` are in l, and `rest` is left

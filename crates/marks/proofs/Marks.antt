@@ -13,7 +13,8 @@ use lib.ListN.{length, getD, set, length-set, length-append, List·getD-append}
 use lib.Seq.{getD-set-same, getD-set-other}
 use borrow.Author.Tests.{eqb-true, eqb-false}
 use Rattle.words.specs.Words.{word}
-use Rattle.words.specs.Runs.{run, length-run, run-at}
+use Rattle.words.specs.Runs.{run}
+use Rattle.words.proofs.Runs.{length-run, run-at}
 use Rattle.book.specs.Rules.{nameAt}
 use Rattle.lines.specs.declared.Token.{Token}
 use Rattle.lines.specs.Lines.{token, tokenWidth, tokensFrom, lineOf}

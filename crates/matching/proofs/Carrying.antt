@@ -13,7 +13,8 @@ use lib.ListN.{length, getD, set, length-set, List·getD-eq-default}
 use lib.Seq.{getD-set-same, getD-set-other, ext-getD}
 use borrow.Author.Tests.{ltb-true, ltb-false, eqb-true, eqb-false}
 use Rattle.words.specs.Lists.{any}
-use Rattle.words.specs.Runs.{run, run-at, length-run}
+use Rattle.words.specs.Runs.{run}
+use Rattle.words.proofs.Runs.{run-at, length-run}
 use Rattle.book.specs.Rules.{nameAt, alternativeAt}
 use Rattle.lines.specs.declared.Token.{Token}
 use Rattle.lines.specs.Lines.{lineOf}

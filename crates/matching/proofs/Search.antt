@@ -14,7 +14,8 @@ use lib.Seq.{getD-append-seam, getD-append-add}
 use borrow.Author.Tests.{eq-eqb, ne-eqb, eqb-true, eqb-false, ltb-true, ltb-false}
 use Rattle.words.specs.Words.{word}
 use Rattle.words.specs.Lists.{any}
-use Rattle.words.specs.Runs.{run, length-run, run-at}
+use Rattle.words.specs.Runs.{run}
+use Rattle.words.proofs.Runs.{length-run, run-at}
 use Rattle.book.specs.Rules.{nameAt}
 use Rattle.lines.specs.declared.Token.{Token}
 use Rattle.lines.specs.Lines.{token, tokenWidth, jobAt, tokensFrom, lineOf}

@@ -8,7 +8,8 @@ use native.Mathlib.Omega.{arith}
 use lib.ListN.{length}
 use borrow.Author.Tests.{eq-eqb, ne-eqb, lt-ltb, le-ltb, ltb-true, ltb-false}
 use Rattle.answers.specs.declared.Numbers.{Numbers}
-use Rattle.answers.specs.Numbers.{numbers, orElse, else-fault, stages, stage, held}
+use Rattle.answers.specs.Numbers.{numbers, orElse}
+use Rattle.answers.proofs.Stages.{else-fault, stages, stage, held}
 use Rattle.words.specs.Words.{word}
 use Rattle.clock.specs.Clock.{noLimit}
 use Rattle.layout.specs.Layout.{fifthWidth, count, offset, recordAt, field, owner}

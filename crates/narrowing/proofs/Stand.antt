@@ -16,7 +16,7 @@ use Rattle.words.specs.Words.{inSet}
 use Rattle.words.specs.Lists.{all, All}
 use Rattle.book.specs.Rules.{Constraint}
 use Rattle.allen.specs.Relation.{relationOf, converse}
-use Rattle.allen.specs.One.{relation-below, converse-is, stands-in}
+use Rattle.allen.proofs.One.{relation-below, converse-is, stands-in}
 use Rattle.composition.specs.Sets.{down}
 use Rattle.composition.specs.Table.{converseSet}
 use Rattle.composition.proofs.Sets.{all-at, in-bit, in-and, and-both}

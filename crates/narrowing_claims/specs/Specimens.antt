@@ -1,29 +1,14 @@
--- The specimens of narrowing, as one table: antt computes each answer and each lent table afterwards, and they are those stated. So each
--- "if" of Kept and Order is met by some input: an alternative that plans meet, one whose sets are all empty, one whose table is too short.
--- Assumes nothing.
-use mathlib.Core.Path.{_≡_, refl}
+-- What the theorems of proofs/Specimens are said in. Assumes nothing.
 use mathlib.Core.Bool.{Bool, true, false, _&&_}
 use mathlib.Core.List.{List, [], _∷_}
 use Prim.Native.Nat.{ℕ, zero, suc}
 use lib.Dec.{eqb}
 use lib.ListN.{length}
-use Rattle.answers.specs.Numbers.{numbers, orElse}
+use Rattle.answers.specs.Numbers.{numbers}
 use Rattle.answers.specs.declared.Numbers.{Numbers}
-use Rattle.words.specs.Words.{inSet}
-use Rattle.words.specs.Lists.{any, all}
-use Rattle.words.specs.Least.{least, first}
-use Rattle.words.specs.Runs.{run}
 use Rattle.clock.specs.Clock.{noLimit}
-use Rattle.layout.specs.Layout.{fifthWidth, fifthMost, begins, headerWrong, starts, owner}
-use Rattle.records.specs.Wrong.{setWrong, valueTests, fifthTestsOf, fifthTests, wrongWord, recordWrong}
-use Rattle.book.specs.Fault.{leaves, tableWrong, toldWord, lengthFault, headerFault, endFault, recordFault, bookFault}
-use Rattle.book.specs.Rules.{constraintAt}
 use Rattle.book.proofs.Specimen.{bookE, sheetE, same}
-use Rattle.composition.specs.Sets.{down, unions, chosen}
-use Rattle.composition.specs.Table.{pairSet, rowSet, composeSets, converseSet}
-use Rattle.narrowing.specs.First.{firstWord, filled, cutBy, constrained, constrainedAll}
-use Rattle.narrowing.specs.Narrowed.{cutWord, stepWord, through, still, passes, sum, narrowed}
-use Rattle.narrowing.specs.Sheet.{ruleOf, firstToken, wordsFor, constraintsOf, firstTable, numberFault, roomFault, narrowing, tableAfter}
+use Rattle.narrowing.specs.Sheet.{narrowing, tableAfter}
 
 -- a sheet, the number of an alternative, a lent table; the answer, and the table afterwards
 pub record Specimen : Type 0 where
@@ -77,8 +62,3 @@ specimens =
     -- can't be met by any tokens, and nothing of it is cut
     ∷ row (2 ∷ 51 ∷ 1 ∷ 14 ∷ 1 ∷ 16 ∷ 1 ∷ 19 ∷ 1 ∷ 23 ∷ 3 ∷ 27 ∷ 6 ∷ 33 ∷ 0 ∷ 1 ∷ 1 ∷ noLimit ∷ 1 ∷ 0 ∷ 0 ∷ 0 ∷ 1 ∷ 0 ∷ 3 ∷ 0 ∷ 6 ∷ 0 ∷ 0 ∷ 0 ∷ 0 ∷ 0 ∷ 0 ∷ 0 ∷ 2 ∷ 4 ∷ 0 ∷ 1 ∷ 34 ∷ 0 ∷ 3 ∷ 34 ∷ 1 ∷ 2 ∷ 272 ∷ 3 ∷ 2 ∷ 272 ∷ 1 ∷ 3 ∷ 520 ∷ []) 0 (nines 16) (numbers 0 0 0) (64 ∷ 34 ∷ 4 ∷ 34 ∷ 2176 ∷ 64 ∷ 272 ∷ 520 ∷ 1024 ∷ 272 ∷ 64 ∷ 272 ∷ 2176 ∷ 520 ∷ 272 ∷ 64 ∷ [])
     ∷ []
-
--- THE TABLE stands
-pub all-stand : all stands specimens ≡ true
-unfolding stands nines sameWords specimens narrowing tableAfter numberFault roomFault orElse wordsFor firstTable constraintsOf firstToken ruleOf firstWord filled cutBy constrained constrainedAll cutWord stepWord through still passes sum narrowed pairSet rowSet composeSets converseSet down unions chosen constraintAt lengthFault headerFault endFault recordFault bookFault setWrong valueTests fifthTestsOf fifthTests first wrongWord recordWrong leaves tableWrong toldWord fifthWidth fifthMost begins headerWrong starts owner run least inSet any all
-all-stand = refl

@@ -8,7 +8,8 @@ use native.Mathlib.Omega.{arith}
 use lib.ListN.{length, set, take, drop, length-set, length-append}
 use lib.Seq.{take-length, take-append-seam, take-at}
 use Rattle.words.specs.Words.{word}
-use Rattle.words.specs.Write.{Wrote, puts, length-puts, puts-eq}
+use Rattle.words.specs.Write.{Wrote, puts}
+use Rattle.words.proofs.Write.{length-puts, puts-eq}
 use Rattle.clock.specs.Clock.{lastTick}
 use Rattle.lines.specs.declared.Token.{Token}
 use Rattle.lines.specs.Lines.{tokenWidth, lineCount, linePlace, durationOf, startOf, tokensFrom, lineOf, linesOf}

@@ -6,7 +6,8 @@ use Prim.Native.Nat.{ℕ, _^_, _<_}
 use native.Mathlib.Omega.{arith}
 use borrow.Author.Tests.{not-true, not-false}
 use Rattle.answers.specs.declared.Numbers.{Numbers}
-use Rattle.answers.specs.Numbers.{numbers, else-fault, else-next}
+use Rattle.answers.specs.Numbers.{numbers}
+use Rattle.answers.proofs.Stages.{else-fault, else-next}
 use Rattle.book.specs.Encode.{atoms}
 use Rattle.book.specs.Fault.{bookFault}
 use Rattle.lines.specs.Lines.{lineOf}

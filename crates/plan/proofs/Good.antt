@@ -9,9 +9,11 @@ use lib.Dec.{ltb, eqb}
 use lib.ListN.{length}
 use borrow.Author.Tests.{ltb-true, ltb-false, leb-false, eqb-true, eqb-false, not-false, le-ltb, lt-leb, eq-eqb, ne-eqb}
 use Rattle.answers.specs.declared.Numbers.{Numbers}
-use Rattle.answers.specs.Numbers.{noFault, orElse, stages, stage, held}
+use Rattle.answers.specs.Numbers.{noFault, orElse}
+use Rattle.answers.proofs.Stages.{stages, stage, held}
 use Rattle.words.specs.Words.{word}
-use Rattle.words.specs.Least.{Clear, least-law, none-below}
+use Rattle.words.specs.Least.{Clear}
+use Rattle.words.proofs.Least.{least-law, none-below}
 use Rattle.clock.specs.Clock.{lastTick, noLimit, inBounds}
 use Rattle.clock.proofs.Laws.{lasts-iff}
 use Rattle.layout.specs.Layout.{count}

@@ -10,7 +10,8 @@ use lib.Dec.{eqb}
 use lib.ListN.{length}
 use borrow.Author.Tests.{lt-ltb, le-ltb, ne-eqb}
 use Rattle.words.specs.Words.{word}
-use Rattle.words.specs.Least.{Clear, clear-none, clear-more, least-at, least-end}
+use Rattle.words.specs.Least.{Clear}
+use Rattle.words.proofs.Least.{clear-none, clear-more, least-at, least-end}
 use Rattle.clock.specs.declared.Time.{Time}
 use Rattle.clock.specs.declared.Later.the-variants.{At, Past}
 use Rattle.clock.specs.Clock.{lastTick, later}

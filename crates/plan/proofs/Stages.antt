@@ -3,7 +3,8 @@ use mathlib.Core.Path.{_≡_, sym, ap, _∙_}
 use mathlib.Core.List.{List}
 use Prim.Native.Nat.{ℕ}
 use Rattle.answers.specs.declared.Numbers.{Numbers}
-use Rattle.answers.specs.Numbers.{orElse, else-fault, else-next}
+use Rattle.answers.specs.Numbers.{orElse}
+use Rattle.answers.proofs.Stages.{else-fault, else-next}
 use Rattle.layout.proofs.Order.{else-else}
 use Rattle.lines.specs.Ends.{endsFault}
 use Rattle.lines.specs.Fault.{lengthFault, headFault, endFault, linesFault}

@@ -6,7 +6,7 @@ use Prim.Native.Nat.{ℕ, _+_, _-_, _≤_}
 use native.Mathlib.Omega.{arith}
 use lib.Dec.{ltb, eqb}
 use borrow.Author.Tests.{ltb-true, eqb-false, not-true}
-use Rattle.words.specs.Least.{least-law}
+use Rattle.words.proofs.Least.{least-law}
 use Rattle.clock.specs.Clock.{lastTick}
 use Rattle.records.specs.Wrong.{valueUnknown}
 use Rattle.lines.specs.Lines.{lineCount, valueOf, durationOf, startOf}

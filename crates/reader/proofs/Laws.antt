@@ -11,7 +11,8 @@ use Rattle.book.specs.Fault.{bookFault}
 use Rattle.lines.specs.declared.Position.{Position}
 use Rattle.plan.specs.Fault.{planFault}
 use Rattle.lines.specs.Walk.{position}
-use Rattle.reader.specs.Opening.{openFault, openAt, opened-at, refused-at, good-opened, book-refused, plan-refused, line-refused}
+use Rattle.reader.specs.Opening.{openFault, openAt}
+use Rattle.reader.proofs.Opening.{opened-at, refused-at, good-opened, book-refused, plan-refused, line-refused}
 
 -- what the contract says
 abbrev pub Opens : List ℕ → List ℕ → ℕ → Numbers → Position → Type 0

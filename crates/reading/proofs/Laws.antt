@@ -8,7 +8,8 @@ use native.Mathlib.Omega.{arith}
 use lib.ListN.{length, set}
 use borrow.Author.Tests.{eq-eqb, ne-eqb, le-leb, lt-leb}
 use Rattle.words.specs.Words.{word}
-use Rattle.words.specs.Write.{Wrote, none}
+use Rattle.words.specs.Write.{Wrote}
+use Rattle.words.proofs.Write.{none}
 use Rattle.clock.specs.Clock.{noLimit}
 use Rattle.event_list.specs.Events.{planToken}
 use Rattle.event_list.specs.Words.{actionWidth}

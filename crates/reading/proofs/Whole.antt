@@ -5,8 +5,10 @@ use Prim.Native.Nat.{ℕ, zero, suc, _+_, _*_, _-_, _≤_, _<_}
 use native.Mathlib.Omega.{arith}
 use lib.ListN.{length, set, length-append}
 use Rattle.words.specs.Words.{word}
-use Rattle.words.specs.Runs.{run, length-run}
-use Rattle.words.specs.Write.{Wrote, none, then, length-puts}
+use Rattle.words.specs.Runs.{run}
+use Rattle.words.proofs.Runs.{length-run}
+use Rattle.words.specs.Write.{Wrote}
+use Rattle.words.proofs.Write.{none, then, length-puts}
 use Rattle.event_list.specs.Events.{Line}
 use Rattle.event_list.specs.Plans.{lineWords, headWords, planWords}
 use Rattle.event_list.specs.Reading.{closed, readFrom, readLine, readLines}

@@ -10,7 +10,8 @@ use native.Mathlib.Omega.{arith}
 use lib.Dec.{eqb}
 use lib.ListN.{length, getD, List·getD-eq-default}
 use borrow.Author.Tests.{lt-ltb, le-ltb}
-use Rattle.words.specs.Least.{least, first-least, none-below}
+use Rattle.words.specs.Least.{least}
+use Rattle.words.proofs.Least.{first-least, none-below}
 use Rattle.layout.specs.Layout.{fifthWidth, width}
 use Rattle.layout.proofs.Bounds.{tables}
 use Rattle.records.specs.Wrong.{valueTests, fifthTestsOf, fifthTests, recordTests, wrongWord, recordWrong}

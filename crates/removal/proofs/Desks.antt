@@ -11,7 +11,8 @@ use lib.ListN.{length, getD, take, drop, set, length-set, length-map}
 use lib.Seq.{getD-set-other, getD-drop, drop-drop, take-all, length-take-le}
 use Rattle.words.specs.Words.{word}
 use Rattle.words.specs.Lists.{any}
-use Rattle.words.specs.Write.{puts, puts-more, puts-eq}
+use Rattle.words.specs.Write.{puts}
+use Rattle.words.proofs.Write.{puts-more, puts-eq}
 use Rattle.words.specs.Runs.{run}
 use Rattle.removal.specs.Removed.{kept, inFront}
 use Rattle.closing.specs.Left.{numbersFrom}

@@ -11,10 +11,12 @@ use lib.ListN.{length, getD, take, drop, length-map}
 use lib.Seq.{length-take-le}
 use borrow.Author.Tests.{ne-eqb, eqb-true}
 use Rattle.answers.specs.declared.Numbers.{Numbers}
-use Rattle.answers.specs.Numbers.{numbers, noFault, orElse, else-fault}
+use Rattle.answers.specs.Numbers.{numbers, noFault, orElse}
+use Rattle.answers.proofs.Stages.{else-fault}
 use Rattle.words.specs.Words.{word}
 use Rattle.words.specs.Lists.{all}
-use Rattle.words.specs.Write.{Wrote, puts, puts-eq}
+use Rattle.words.specs.Write.{Wrote, puts}
+use Rattle.words.proofs.Write.{puts-eq}
 use Rattle.layout.specs.Layout.{fifthWidth, count, offset}
 use Rattle.book.specs.Rules.{Atom, Alternative, rulesOf}
 use Rattle.book.specs.Encode.{atoms, altsOf, namesOf, asksOf}

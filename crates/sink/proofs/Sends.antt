@@ -5,7 +5,7 @@ use mathlib.Core.List.{List, [], _∷_, _++_, append-assoc, append-nil}
 use Prim.Native.Nat.{ℕ}
 use lib.ListN.{length}
 use borrow.Author.Tests.{eq-eqb, ne-eqb}
-use Rattle.words.specs.Write.{length-puts}
+use Rattle.words.proofs.Write.{length-puts}
 use Rattle.event_list.specs.Events.{Action}
 use Rattle.event_list.specs.Words.{actionWords}
 use Rattle.event_list.specs.Sends.{Sends}

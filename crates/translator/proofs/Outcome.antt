@@ -9,9 +9,11 @@ use mathlib.Core.List.{List, _++_}
 use lib.Dec.{ltb, eqb}
 use lib.ListN.{length, take, drop, length-take}
 use Rattle.answers.specs.declared.Numbers.{Numbers}
-use Rattle.answers.specs.Numbers.{numbers, noFault, orElse, else-fault, else-next}
+use Rattle.answers.specs.Numbers.{numbers, noFault, orElse}
+use Rattle.answers.proofs.Stages.{else-fault, else-next}
 use Rattle.words.specs.Least.{first}
-use Rattle.words.specs.Write.{Wrote, puts-eq}
+use Rattle.words.specs.Write.{Wrote}
+use Rattle.words.proofs.Write.{puts-eq}
 use Rattle.layout.specs.Layout.{count}
 use Rattle.book.specs.Rules.{Atom, Rule}
 use Rattle.book.specs.Encode.{altsOf, namesOf, asksOf}

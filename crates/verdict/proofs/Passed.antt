@@ -8,7 +8,8 @@ use native.Mathlib.Omega.{arith}
 use lib.Dec.{ltb}
 use lib.ListN.{length, getD}
 use borrow.Author.Tests.{lt-ltb, le-ltb}
-use Rattle.words.specs.Least.{first, first-hit, first-miss}
+use Rattle.words.specs.Least.{first}
+use Rattle.words.proofs.Least.{first-hit, first-miss}
 
 -- `done` elements of `whole` are passed, none of them bad, and they came to `seen`; `total` says what a list comes to
 pub record Passed {A : Type 0} (bad : A → Bool) (total : List A → ℕ) (whole rest : List A) (done seen : ℕ) : Type 0 where

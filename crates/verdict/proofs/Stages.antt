@@ -4,7 +4,7 @@ use mathlib.Core.Path.{_≡_, sym, _∙_}
 use mathlib.Core.List.{List}
 use Prim.Native.Nat.{ℕ, _^_, _<_}
 use Rattle.answers.specs.declared.Numbers.{Numbers}
-use Rattle.answers.specs.Numbers.{else-fault, else-next}
+use Rattle.answers.proofs.Stages.{else-fault, else-next}
 use Rattle.book.specs.Fault.{bookFault}
 use Rattle.lines.specs.Lines.{lineOf}
 use Rattle.plan.specs.Fault.{planFault}

@@ -7,7 +7,8 @@ use Prim.Native.Nat.{ℕ, zero, suc, _+_}
 use lib.ListN.{getD}
 use Rattle.words.specs.Least.{first}
 use Rattle.words.specs.Lists.{any}
-use Rattle.words.specs.Runs.{run, length-run}
+use Rattle.words.specs.Runs.{run}
+use Rattle.words.proofs.Runs.{length-run}
 use Rattle.layout.specs.Layout.{count, offset}
 use Rattle.book.specs.Rules.{Fifth, ruleAt, rulesOf}
 use Rattle.book.specs.Encode.{atoms, constraints}

@@ -5,7 +5,8 @@ use native.Mathlib.Omega.{arith}
 use mathlib.Core.List.{List, [], _∷_, _++_, flatMap, append-assoc}
 use lib.ListN.{length, getD, length-append, length-map}
 use Rattle.words.specs.Words.{word}
-use Rattle.words.specs.Runs.{rows, length-run, run-at}
+use Rattle.words.specs.Runs.{rows}
+use Rattle.words.proofs.Runs.{length-run, run-at}
 use Rattle.layout.specs.Layout.{offset}
 use Rattle.book.specs.Rules.{nameAt}
 use Rattle.book.specs.Encode.{nameWords, atomWords, namesOf, asksOf}

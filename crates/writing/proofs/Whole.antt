@@ -6,7 +6,8 @@ use mathlib.Core.List.{List, [], _∷_, _++_, map, flatMap, append-assoc}
 use lib.ListN.{length, take, drop, length-append, length-drop, length-map}
 use lib.Seq.{take-add, drop-drop, length-take-le}
 use Rattle.words.specs.Write.{Has}
-use Rattle.words.specs.Runs.{run, length-run, length-rows, length-flat}
+use Rattle.words.specs.Runs.{run}
+use Rattle.words.proofs.Runs.{length-run, length-rows, length-flat}
 use Rattle.layout.specs.Layout.{count, offset}
 use Rattle.book.specs.Rules.{Atom, Alternative, Rule}
 use Rattle.book.specs.Encode.{altsOf, namesOf, asksOf, nameWords, atomWords, ruleRows, ruleRow, ruleNext, alternativeRows, alternativeRow, alternativeNext, bookOf}

@@ -3,7 +3,8 @@
 use Prim.Native.Nat.{_-_, _≤_}
 use native.Mathlib.Omega.{arith}
 use borrow.Author.Needs.{needs}
-use Rattle.words.specs.Least.{Clear, clear-more, least-at, scan}
+use Rattle.words.specs.Least.{Clear}
+use Rattle.words.proofs.Least.{clear-more, least-at, scan}
 use Rattle.records.specs.Wrong.{recordWrong}
 use Rattle.records.proofs.Words.{word-bad, word-good}
 use Rattle.layout.specs.Owner.{Cursor}

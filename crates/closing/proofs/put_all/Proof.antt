@@ -2,7 +2,7 @@
 use mathlib.Core.List.{_++_}
 use native.Mathlib.Omega.{arith}
 use borrow.Author.Needs.{needs}
-use Rattle.words.specs.Write.{then, has-first, has-second}
+use Rattle.words.proofs.Write.{then, has-first, has-second}
 use Rattle.book.proofs.Inside.{offsets}
 use Rattle.writing.specs.Whole.{copied}
 use Rattle.closing.specs.Left.{tablesBy}

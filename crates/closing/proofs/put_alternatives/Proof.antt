@@ -5,7 +5,7 @@ use Prim.Native.Nat.{_+_, _-_, _≤_, _<_}
 use native.Mathlib.Omega.{arith}
 use borrow.Author.Needs.{needs}
 use lib.ListN.{length}
-use Rattle.words.specs.Write.{has-first}
+use Rattle.words.proofs.Write.{has-first}
 use Rattle.listing.proofs.Going.{Going, begin, go, done, room}
 use Rattle.closing.specs.Left.{totalFrom, rowsFrom}
 use Rattle.closing.proofs.Left.{total-more, rows-more, rows-none}

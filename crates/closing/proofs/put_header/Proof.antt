@@ -1,6 +1,6 @@
 -- `closing::put_header` meets its contract: fourteen words in three runs. Assumes nothing.
 use borrow.Author.Needs.{needs}
-use Rattle.words.specs.Write.{then}
+use Rattle.words.proofs.Write.{then}
 use Rattle.closing.proofs.put_header.Statement.{statement}
 use Rattle.closing.proofs.put_header.Tie as tie
 

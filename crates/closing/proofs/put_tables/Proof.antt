@@ -1,6 +1,6 @@
 -- `closing::put_tables` meets its contract: the four tables lie one behind another, so one run follows the other. Assumes nothing.
 use borrow.Author.Needs.{needs}
-use Rattle.words.specs.Write.{then, has-first, has-second}
+use Rattle.words.proofs.Write.{then, has-first, has-second}
 use Rattle.closing.specs.Left.{tablesBy}
 use Rattle.closing.proofs.put_tables.Statement.{statement}
 use Rattle.closing.proofs.put_tables.Tie as tie

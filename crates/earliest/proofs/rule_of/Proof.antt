@@ -3,7 +3,8 @@ use mathlib.Core.Path.{_≡_}
 use Prim.Native.Nat.{_-_, _≤_}
 use native.Mathlib.Omega.{arith}
 use borrow.Author.Needs.{needs}
-use Rattle.words.specs.Least.{Clear, clear-none}
+use Rattle.words.specs.Least.{Clear}
+use Rattle.words.proofs.Least.{clear-none}
 use Rattle.layout.specs.Layout.{reaches}
 use Rattle.earliest.proofs.Owning.{rule-here, rule-next, rule-end}
 use Rattle.earliest.proofs.rule_of.Statement.{statement}

@@ -1,6 +1,6 @@
 -- `front_reader::tteokbiran_step` meets its contract: what a step of the position says, number by number. Assumes nothing.
 use borrow.Author.Needs.{needs}
-use Rattle.front_reader.specs.Stepped.{handed, none, stepped, stayed}
+use Rattle.front_reader.proofs.Stepped.{handed, none, stepped, stayed}
 use Rattle.front_reader.proofs.tteokbiran_step.Statement.{statement}
 use Rattle.front_reader.proofs.tteokbiran_step.Tie as tie
 

@@ -1,7 +1,8 @@
 -- `layout::first_header` meets its contract. The loop's invariant: no header word before k is wrong. Assumes nothing.
 use Prim.Native.Nat.{_-_, _≤_}
 use borrow.Author.Needs.{needs}
-use Rattle.words.specs.Least.{Clear, scan}
+use Rattle.words.specs.Least.{Clear}
+use Rattle.words.proofs.Least.{scan}
 use Rattle.layout.specs.Layout.{headerWrong}
 use Rattle.layout.proofs.first_header.Statement.{statement}
 use Rattle.layout.proofs.first_header.Tie as tie

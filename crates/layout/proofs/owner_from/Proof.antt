@@ -3,7 +3,8 @@ use Prim.Native.Nat.{_-_, _≤_}
 use native.Mathlib.Omega.{arith}
 use borrow.Author.Needs.{needs}
 use borrow.Author.Tests.{lt-ltb, le-ltb}
-use Rattle.words.specs.Least.{Clear, clear-more, least-at, least-end}
+use Rattle.words.specs.Least.{Clear}
+use Rattle.words.proofs.Least.{clear-more, least-at, least-end}
 use Rattle.layout.specs.Layout.{reaches, owner}
 use Rattle.layout.specs.Owner.{Place}
 use Rattle.layout.proofs.Bounds.{scaled, placed}

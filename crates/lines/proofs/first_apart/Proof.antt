@@ -2,7 +2,8 @@
 use Prim.Native.Nat.{_-_, _≤_}
 use native.Mathlib.Omega.{arith}
 use borrow.Author.Needs.{needs}
-use Rattle.words.specs.Least.{Clear, scan, clear-more, least-at, least-end}
+use Rattle.words.specs.Least.{Clear}
+use Rattle.words.proofs.Least.{scan, clear-more, least-at, least-end}
 use Rattle.lines.specs.Ends.{endsApart}
 use Rattle.lines.proofs.Ends.{apart, together}
 use Rattle.lines.proofs.first_apart.Statement.{statement}

@@ -2,7 +2,8 @@
 use Prim.Native.Nat.{_≤_, _-_}
 use native.Mathlib.Omega.{arith}
 use borrow.Author.Needs.{needs}
-use Rattle.words.specs.Least.{Clear, scan, scan-at, scan-end}
+use Rattle.words.specs.Least.{Clear}
+use Rattle.words.proofs.Least.{scan, scan-at, scan-end}
 use Rattle.lines.specs.Fault.{headWrong}
 use Rattle.lines.proofs.first_head.Statement.{statement}
 use Rattle.lines.proofs.first_head.Tie as tie

@@ -3,7 +3,7 @@
 use Prim.Native.Nat.{ℕ, _+_, _*_, _-_, _<_}
 use native.Mathlib.Omega.{arith}
 use borrow.Author.Needs.{needs}
-use Rattle.words.specs.Write.{none}
+use Rattle.words.proofs.Write.{none}
 use Rattle.words.proofs.in_set.Reads as in-set-reads
 use Rattle.words.proofs.word_at.Reads as word-at-reads
 use Rattle.listing.proofs.Going.{then-cut, cut-full, cut-none, cut-one}

@@ -3,7 +3,8 @@ use Prim.Native.Nat.{_-_, _≤_}
 use native.Mathlib.Omega.{arith}
 use borrow.Author.Needs.{needs}
 use borrow.Author.Tests.{lt-ltb, le-ltb}
-use Rattle.words.specs.Least.{Clear, clear-none, clear-more, least-at, least-end}
+use Rattle.words.specs.Least.{Clear}
+use Rattle.words.proofs.Least.{clear-none, clear-more, least-at, least-end}
 use Rattle.layout.specs.Layout.{reaches, owner}
 use Rattle.narrowing.specs.Sheet.{ruleOf}
 use Rattle.narrowing.proofs.rule_of.Statement.{statement}

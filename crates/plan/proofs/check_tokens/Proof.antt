@@ -3,7 +3,8 @@ use mathlib.Core.Path.{_∙_}
 use Prim.Native.Nat.{_≤_, _-_}
 use native.Mathlib.Omega.{arith}
 use borrow.Author.Needs.{needs}
-use Rattle.words.specs.Least.{Clear, clear-none, clear-more}
+use Rattle.words.specs.Least.{Clear}
+use Rattle.words.proofs.Least.{clear-none, clear-more}
 use Rattle.plan.specs.Fault.{lineWrong}
 use Rattle.plan.proofs.Laws.{number-ranges, line-passed, first-faulty, none-faulty}
 use Rattle.plan.proofs.check_tokens.Statement.{statement}

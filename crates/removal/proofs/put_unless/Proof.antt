@@ -1,7 +1,7 @@
 -- `removal::put_unless` meets its contract. Assumes nothing.
 use mathlib.Core.Path.{refl}
 use borrow.Author.Needs.{needs}
-use Rattle.words.specs.Write.{none}
+use Rattle.words.proofs.Write.{none}
 use Rattle.listing.proofs.Going.{put-one}
 use Rattle.removal.proofs.Rising.{unless-next, unless-other}
 use Rattle.removal.proofs.put_unless.Statement.{statement}

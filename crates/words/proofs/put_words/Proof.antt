@@ -5,7 +5,8 @@ use native.Mathlib.Omega.{arith}
 use borrow.Author.Needs.{needs}
 use lib.ListN.{length, take, drop, length-set, length-drop}
 use lib.Seq.{getD-drop, length-take-le}
-use Rattle.words.specs.Write.{puts, puts-more}
+use Rattle.words.specs.Write.{puts}
+use Rattle.words.proofs.Write.{puts-more}
 use Rattle.words.proofs.put_words.Statement.{statement}
 use Rattle.words.proofs.put_words.Tie as tie
 

@@ -6,8 +6,10 @@ use native.Mathlib.Omega.{arith}
 use borrow.Author.Needs.{needs}
 use lib.ListN.{length, take, getD}
 use lib.Seq.{take-all}
-use Rattle.words.specs.Bytes.{bytesOfWord, bytesOf, bytes-more}
-use Rattle.words.specs.Write.{Wrote, none, then, length-puts}
+use Rattle.words.specs.Bytes.{bytesOfWord, bytesOf}
+use Rattle.words.proofs.Bytes.{bytes-more}
+use Rattle.words.specs.Write.{Wrote}
+use Rattle.words.proofs.Write.{none, then, length-puts}
 use Rattle.words.proofs.store.Statement.{statement}
 use Rattle.words.proofs.store.Tie as tie
 

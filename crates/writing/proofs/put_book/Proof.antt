@@ -3,7 +3,7 @@
 use mathlib.Core.List.{_++_}
 use native.Mathlib.Omega.{arith}
 use borrow.Author.Needs.{needs}
-use Rattle.words.specs.Write.{then, has-first, has-second}
+use Rattle.words.proofs.Write.{then, has-first, has-second}
 use Rattle.book.proofs.Inside.{offsets}
 use Rattle.writing.specs.Whole.{tablesBy, copied}
 use Rattle.writing.proofs.Whole.{copied-long, book-by, book-room}

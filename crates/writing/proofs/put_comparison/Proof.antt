@@ -3,7 +3,7 @@ use mathlib.Core.Path.{ap}
 use native.Mathlib.Omega.{arith}
 use borrow.Author.Needs.{needs}
 use lib.ListN.{length}
-use Rattle.words.specs.Write.{none}
+use Rattle.words.proofs.Write.{none}
 use Rattle.writing.proofs.Compare.{compared-some}
 use Rattle.writing.proofs.put_comparison.Statement.{statement}
 use Rattle.writing.proofs.put_comparison.Tie as tie

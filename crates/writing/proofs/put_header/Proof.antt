@@ -1,6 +1,6 @@
 -- `writing::put_header` meets its contract: fourteen words in three runs. Assumes nothing.
 use borrow.Author.Needs.{needs}
-use Rattle.words.specs.Write.{then}
+use Rattle.words.proofs.Write.{then}
 use Rattle.writing.proofs.put_header.Statement.{statement}
 use Rattle.writing.proofs.put_header.Tie as tie
 

@@ -4,7 +4,7 @@ use mathlib.Core.Path.{_≡_, refl}
 use Prim.Native.Nat.{_+_, _*_, _-_, _≤_}
 use native.Mathlib.Omega.{arith}
 use borrow.Author.Needs.{needs}
-use Rattle.words.specs.Write.{has-first}
+use Rattle.words.proofs.Write.{has-first}
 use Rattle.listing.proofs.Going.{Going, start, go, done, room}
 use Rattle.writing.specs.Left.{itemAtoms, atomWordsFrom}
 use Rattle.writing.proofs.Left.{atom-words-more, atom-words-none, atom-words-all}

@@ -1,7 +1,7 @@
 -- `writing::put_relation` meets its contract: a relation's atoms are its three comparisons, one behind the other.
 -- Assumes nothing.
 use borrow.Author.Needs.{needs}
-use Rattle.words.specs.Write.{then, has-first, has-second}
+use Rattle.words.proofs.Write.{then, has-first, has-second}
 use Rattle.writing.proofs.Compare.{relation-is}
 use Rattle.writing.proofs.put_relation.Statement.{statement}
 use Rattle.writing.proofs.put_relation.Tie as tie

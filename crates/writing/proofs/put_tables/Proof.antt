@@ -1,7 +1,7 @@
 -- `writing::put_tables` meets its contract: the four tables lie one behind another, so one run follows the other.
 -- Assumes nothing.
 use borrow.Author.Needs.{needs}
-use Rattle.words.specs.Write.{then, has-first, has-second}
+use Rattle.words.proofs.Write.{then, has-first, has-second}
 use Rattle.writing.specs.Whole.{tablesBy}
 use Rattle.writing.proofs.Whole.{items-few}
 use Rattle.writing.proofs.put_tables.Statement.{statement}
