@@ -1,4 +1,6 @@
 // Allen's thirteen relations: which one holds of two stretches of time.
+#![tactic(auto)]
+
 ghost use Rattle.std.specs.Prelude.{◌≡◌, ◌≤◌};
 ghost use Rattle.allen.specs.Relation.{relation_of};
 ghost use Rattle.allen.specs.Order.{order_of, Across};

@@ -1,10 +1,12 @@
 // The answers of the judge, the translator and the reader: a case for each row of the fault table, and their numbers.
+#![tactic(auto)]
+
 ghost use Rattle.std.specs.Prelude.{◌≡◌};
 ghost use Rattle.answers.specs.Numbers.{numbers, numbers_at, numbers_of};
 
 // What is wrong, and where; `Done` is the one way to be right, with the numbers that its function promises. No two cases share their
 // numbers, so a contract on the numbers settles the case.
-#[derive(Drop)]
+#[derive(Clone, Copy)]
 pub enum Answer {
     Done { a: u32, b: u32 },
     BookLength,
@@ -34,7 +36,7 @@ pub enum Answer {
 }
 
 // The four numbers that an answer is shown as.
-#[derive(Drop)]
+#[derive(Clone, Copy)]
 pub struct Numbers {
     pub number: u32,
     pub a: u32,

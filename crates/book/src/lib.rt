@@ -1,5 +1,7 @@
 // Whether a book or a sheet is sound: answers 1 to 4. Both have one layout, with the edition e, 1 or 2. Once that is known to be
 // right, the tables are gone through in order, each record once.
+#![tactic(auto)]
+
 ghost use Rattle.std.specs.Prelude.{◌≡◌, ◌<◌, ◌≤◌, ◌^◌, length};
 ghost use Rattle.answers.specs.Numbers.{numbers_of};
 ghost use Rattle.layout.specs.Layout.{count, ending};

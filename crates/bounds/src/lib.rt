@@ -4,6 +4,8 @@
 // time j is at least after time i (which may be below 0). The times are passed from the last to the first: through time k, each bound between
 // two times below k is raised to what the bounds from the one to k and from k to the other imply. Then each time, from the first to the last, is
 // the least that the bounds from the times before it allow.
+#![tactic(auto)]
+
 ghost use Rattle.std.specs.Prelude.{◌≡◌, Bool, true, false, ℕ, ◌+◌, ◌*◌, ◌≤◌, ◌<◌, length};
 ghost use Rattle.bounds.specs.Bounds.{entry, Near, reach, Within, Floored, times, Earliest};
 ghost use Rattle.bounds.specs.Steps.{wide, late, Join, Ready, RaisedOne, RaisedRow, RaisedRows, Closed, Tested, Later, Reached, First, Fit, far};

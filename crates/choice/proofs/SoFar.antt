@@ -3,16 +3,15 @@
 use mathlib.Core.Path.{◌≡◌, refl, sym, ap, ◌∙◌}
 use mathlib.Core.Bool.{Bool, true, false, ◌&&◌, ◌||◌, not, cond, false≢true}
 use mathlib.Core.Logic.{inl, inr, ⊎_elim}
-use mathlib.Core.List.{List, [], ◌∷◌}
+use mathlib.Core.List.{List}
 use Prim.Native.Nat.{ℕ, zero, suc, ◌+◌, ◌-◌, ◌*◌, ◌≤◌, ◌<◌}
 use native.Mathlib.Omega.{arith}
 use lib.Dec.{eqb, leb, ltb}
 use lib.ListN.{length}
 use borrow.Author.Tests.{ltb-true, ltb-false, leb-true, lt-ltb, le-ltb, le-leb, eqb-true, eqb-false, ne_eqb}
 use Rattle.words.specs.Words.{word}
-use Rattle.words.specs.Lists.{any, all}
+use Rattle.words.specs.Lists.{all}
 use Rattle.words.specs.Runs.{run}
-use Rattle.clock.specs.Clock.{no_limit, in_bounds}
 use Rattle.layout.specs.Layout.{fifth_width}
 use Rattle.book.specs.Rules.{name_at, atom_at, constraint_at}
 use Rattle.lines.specs.Lines.{line_of}

@@ -1,5 +1,7 @@
 // A choice: the plan's end, and start, end and job of the trigger token and of the tokens chosen for an alternative's names; the times of terms
 // in it, and whether what the alternative asks holds.
+#![tactic(auto)]
+
 ghost use Rattle.std.specs.Prelude.{◌≡◌, ◌&&◌, ◌||◌, not, ◌+◌, ◌*◌, ◌<◌, ◌≤◌, ◌^◌, leb, get_or, set};
 ghost use Rattle.clock.specs.Clock.{at};
 ghost use Rattle.layout.specs.Layout.{fifth_width};
@@ -181,7 +183,7 @@ pub fn fifth_width(e: usize) -> usize
 }
 
 // What an alternative names and asks: the edition, where its names and its asks are, and how many.
-#[derive(Drop)]
+#[derive(Clone, Copy)]
 pub struct Alternative {
     pub edition: usize,
     pub name: usize,
@@ -209,7 +211,7 @@ pub fn alternative_at(e: usize, b: &[u32], place: usize) -> Alternative
 
 // Tokens of a line, for a name: the value that it asks for, and the job if it is tied to one; the words of a token, how many tokens, where
 // they are, and when the first starts.
-#[derive(Drop)]
+#[derive(Clone, Copy)]
 pub struct Tokens {
     pub value: u32,
     pub tied: bool,
@@ -313,7 +315,7 @@ pub fn hold_so_far(b: &[u32], a: Alternative, c: &[u64; 16], j: usize) -> bool
 }
 
 // The job that a name is asked for, if it is tied to one.
-#[derive(Drop)]
+#[derive(Clone, Copy)]
 pub struct Tie {
     pub tied: bool,
     pub job: u64,

@@ -1,15 +1,17 @@
 // The type that stands for a time: its two marks, a duration later, and a difference against bounds.
+#![tactic(auto)]
+
 ghost use Rattle.std.specs.Prelude.{◌≡◌};
 ghost use Rattle.clock.specs.Clock.{last_tick, no_limit, later, in_bounds};
 
 // A time, in ticks. It is wide enough for the sum of any durations that lent words can hold, so that nothing wraps.
-#[derive(Drop)]
+#[derive(Clone, Copy)]
 pub struct Time {
     pub tick: u64,
 }
 
 // The sum of a time and a duration: a time, or past the last tick.
-#[derive(Drop)]
+#[derive(Clone, Copy)]
 pub enum Later {
     At(Time),
     Past,

@@ -1,4 +1,6 @@
 // A book written anew with some of its rules: each table behind the one before, each range where the one before ends.
+#![tactic(auto)]
+
 ghost use Rattle.std.specs.Prelude.{◌≡◌, ◌+◌, ◌*◌, ◌^◌, ◌≤◌, ◌<◌, map, length};
 ghost use Rattle.words.specs.Write.{Wrote, Has};
 ghost use Rattle.layout.specs.Layout.{offset};

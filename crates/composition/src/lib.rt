@@ -1,4 +1,6 @@
 // Allen's composition: what two relations leave for a third pair, for single relations and for sets of them.
+#![tactic(auto)]
+
 ghost use Rattle.std.specs.Prelude.{◌≡◌};
 ghost use Rattle.composition.specs.Sets.{given};
 ghost use Rattle.composition.specs.Table.{pair_set, row_set, compose_sets, converse_set};

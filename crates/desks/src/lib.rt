@@ -1,4 +1,6 @@
 // Two desks that share a book: whose each rule is, and a desk's own judgement.
+#![tactic(auto)]
+
 ghost use Rattle.std.specs.Prelude.{◌≡◌, ◌^◌, ◌<◌};
 ghost use Rattle.answers.specs.Numbers.{numbers_of};
 ghost use Rattle.book.specs.Rules.{rules_of};

@@ -1,5 +1,7 @@
 // Alternatives that no day could meet: whether times exist for the tokens of a book's alternative, and the earliest of them. What the
 // alternative asks is put into a table of bounds between twelve times, and `bounds` finds the least times that meet them.
+#![tactic(auto)]
+
 ghost use Rattle.std.specs.Prelude.{◌≡◌, Bool, true, false, ℕ, ◌+◌, ◌*◌, ◌≤◌, ◌<◌, length};
 ghost use Rattle.answers.specs.Numbers.{numbers_of};
 ghost use Rattle.words.specs.Words.{word};
@@ -16,21 +18,21 @@ use clock::Time;
 use words::{number_at, word_at};
 
 // A time of the table, and how much later.
-#[derive(Drop)]
+#[derive(Clone, Copy)]
 struct Term {
     slot: usize,
     tick: u32,
 }
 
 // A rule's trigger: its variable, or the mark where there is none, and its value.
-#[derive(Drop)]
+#[derive(Clone, Copy)]
 struct Trigger {
     variable: u32,
     value: u32,
 }
 
 // Where the names and the atoms of an alternative are, and how many.
-#[derive(Drop)]
+#[derive(Clone, Copy)]
 struct Places {
     name: usize,
     names: usize,

@@ -11,7 +11,7 @@ use borrow.Author.Tests.{leb-true, leb-false, le-leb, eqb-true, eqb-false, eq-eq
 use Rattle.words.specs.Lists.{All}
 use Rattle.words.specs.Runs.{run}
 use Rattle.clock.specs.Clock.{no_limit}
-use Rattle.event_list.specs.Events.{PlanToken, Action, Event, Line, plan_token, action, event, end, to_run, start_on, change_on, later, by_line, lesser, soonest, sweep, line_ticks, plan_ticks, events_of}
+use Rattle.event_list.specs.Events.{PlanToken, Action, Event, Line, plan_token, event, end, to_run, start_on, change_on, later, by_line, lesser, soonest, sweep, line_ticks, plan_ticks, events_of}
 use Rattle.event_list.specs.Reading.{add_ticks}
 
 -- ---- the lines that are written

@@ -12,7 +12,7 @@ use Rattle.words.specs.Words.{word}
 use Rattle.words.specs.Lists.{All}
 use Rattle.words.specs.Runs.{run}
 use Rattle.lines.specs.Lines.{line_of, lines_of}
-use Rattle.event_list.specs.Events.{PlanToken, Action, Event, Line, plan_token, action, event, end, to_run, start_on, change_on, later, by_line, soonest, sweep, line_ticks, plan_ticks, events_of}
+use Rattle.event_list.specs.Events.{PlanToken, Action, Event, Line, plan_token, event, end, to_run, start_on, change_on, later, by_line, soonest, sweep, line_ticks, plan_ticks, events_of}
 use Rattle.event_list.specs.Moments.{actions_at, token_at_time, line_at_time, Later, Shaped}
 use Rattle.event_list.specs.Plans.{line_tokens, plan_lines}
 use Rattle.event_list.proofs.Back.{Ends, Together, none_left, run_le, soonest_le, all-later, at-end}

@@ -1,4 +1,6 @@
 // Reads a list of events back into the plan that it was written from, in lent words.
+#![tactic(auto)]
+
 ghost use Rattle.std.specs.Prelude.{◌≡◌, length};
 ghost use Rattle.answers.specs.Numbers.{numbers_of};
 ghost use Rattle.book.specs.Fault.{book_fault};
@@ -9,7 +11,7 @@ ghost use Rattle.events_read.specs.Found.{Finds};
 use answers::Answer;
 
 // Whether the writer could have made the list, and how many words its plan has.
-#[derive(Drop)]
+#[derive(Clone, Copy)]
 struct Found {
     made: bool,
     words: usize,

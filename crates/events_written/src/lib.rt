@@ -1,4 +1,6 @@
 // Writes a plan as events in time order, into lent words.
+#![tactic(auto)]
+
 ghost use Rattle.std.specs.Prelude.{◌≡◌, length};
 ghost use Rattle.answers.specs.Numbers.{numbers_of};
 ghost use Rattle.event_list.specs.Answers.{write_fault, written_events, written_room};

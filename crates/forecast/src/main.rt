@@ -1,4 +1,8 @@
 // Prints a line for each alternative of book.bin of the current folder that no day could meet: its rule and its number.
-fn main() {
-    files::forecast(b"book.bin");
+#![tactic(auto)]
+
+use std::io;
+
+fn main(rt: HostRuntime) -> io::Result<()> {
+    files::forecast(&rt, b"book.bin")
 }

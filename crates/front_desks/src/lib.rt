@@ -1,4 +1,6 @@
 // The C side of a desk's own judgement: a book and a plan as bytes and the lent list of desks in, the answer's numbers out, one by one.
+#![tactic(auto)]
+
 ghost use Rattle.std.specs.Prelude.{◌≡◌};
 ghost use Rattle.answers.specs.Numbers.{numbers_of};
 ghost use Rattle.words.specs.Bytes.{file_words};

@@ -1,4 +1,6 @@
 // The C side of the earliest times: a book as bytes and lent numbers in, the answer's numbers out, one by one.
+#![tactic(auto)]
+
 ghost use Rattle.std.specs.Prelude.{◌≡◌};
 ghost use Rattle.answers.specs.Numbers.{numbers_at, numbers_of};
 ghost use Rattle.words.specs.Bytes.{file_words};

@@ -1,4 +1,6 @@
 // The C side of the judges and the translator: files as bytes in, the answer's numbers out, one by one.
+#![tactic(auto)]
+
 ghost use Rattle.std.specs.Prelude.{◌≡◌, length};
 ghost use Rattle.words.specs.Bytes.{file_words};
 ghost use Rattle.verdict.specs.Judged.{judged, judged_sheet};

@@ -1,4 +1,6 @@
 // The C side of books that speak only of order: files as bytes in, yes or no, or the answer's numbers, one by one, out.
+#![tactic(auto)]
+
 ghost use Rattle.std.specs.Prelude.{◌≡◌};
 ghost use Rattle.answers.specs.Numbers.{numbers_of};
 ghost use Rattle.words.specs.Bytes.{file_words};

@@ -1,4 +1,6 @@
 // The C side of the reader: lent words and a position in, its numbers out, one by one.
+#![tactic(auto)]
+
 ghost use Rattle.std.specs.Prelude.{◌≡◌};
 ghost use Rattle.lines.specs.Walk.{position, names, step_of};
 ghost use Rattle.reader.specs.Opening.{open_fault, open_at};

@@ -1,4 +1,6 @@
 // The C side of taking rules out of the book: the lent words in, the answer's numbers out, one by one.
+#![tactic(auto)]
+
 ghost use Rattle.std.specs.Prelude.{◌≡◌};
 ghost use Rattle.removal.specs.Removal.{removal, book_after, desks_after};
 

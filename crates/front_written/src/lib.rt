@@ -1,4 +1,6 @@
 // The C side of writing events: a book and a plan as bytes and a lent room in, the answer's numbers out, one by one.
+#![tactic(auto)]
+
 ghost use Rattle.std.specs.Prelude.{◌≡◌, length};
 ghost use Rattle.answers.specs.Numbers.{numbers_of};
 ghost use Rattle.words.specs.Bytes.{file_words};

@@ -1,6 +1,8 @@
 // The layout of a book or a sheet, and answers 1 to 3. Both have one layout, with the edition e, 1 or 2; what differs by it is
 // table 5. The header is read by place and is 0 past the end. Once it is known to be right, the tables lie in the book, and
 // their records are read without a test for the end.
+#![tactic(auto)]
+
 ghost use Rattle.std.specs.Prelude.{◌≡◌, ◌+◌, ◌*◌, ◌<◌, ◌≤◌, ◌^◌, length};
 ghost use Rattle.answers.specs.Numbers.{numbers_of};
 ghost use Rattle.words.specs.Words.{word};

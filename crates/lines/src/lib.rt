@@ -1,4 +1,6 @@
 // The layout of a plan, answers 5 to 7, when its lines end, answer 18, and a position on one of its timelines.
+#![tactic(auto)]
+
 ghost use Rattle.std.specs.Prelude.{◌≡◌, ◌*◌, ◌≤◌, ◌<◌, ◌^◌};
 ghost use Rattle.answers.specs.Numbers.{numbers_of};
 ghost use Rattle.clock.specs.Clock.{no_limit};
@@ -11,7 +13,7 @@ use answers::Answer;
 use clock::{Later, Time};
 
 // A token of a timeline: its value, when it starts and ends, and its job.
-#[derive(Drop)]
+#[derive(Clone, Copy)]
 pub struct Token {
     pub value: u32,
     pub start: Time,
@@ -20,7 +22,7 @@ pub struct Token {
 }
 
 // A place on a timeline: its line, the number of the next token there, and when that starts.
-#[derive(Drop)]
+#[derive(Clone, Copy)]
 pub struct Position {
     pub line: u32,
     pub token: u32,
@@ -28,7 +30,7 @@ pub struct Position {
 }
 
 // What a step gives: the token and the next position, or the position back.
-#[derive(Drop)]
+#[derive(Clone, Copy)]
 pub enum Step {
     Handed(Token, Position),
     NoMore(Position),

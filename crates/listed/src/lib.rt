@@ -1,4 +1,6 @@
 // Sends the list of a plan: all events in time order, behind the list's first three words.
+#![tactic(auto)]
+
 ghost use Rattle.std.specs.Prelude.{◌≡◌, true, ◌+◌, ◌<◌, ◌≤◌, ◌^◌, length};
 ghost use mathlib.Core.List.{flat_map};
 ghost use Rattle.words.specs.Words.{word};
@@ -13,7 +15,7 @@ use moments::Left;
 use sink::Sent;
 
 // How far events were sent, whether all so far are the list's, and how many they are.
-#[derive(Drop)]
+#[derive(Clone, Copy)]
 pub struct Swept {
     pub at: usize,
     pub same: bool,

@@ -1,4 +1,6 @@
 // The choices of a sheet, listed: an item for each alternative of the book to be.
+#![tactic(auto)]
+
 ghost use Rattle.std.specs.Prelude.{◌≡◌, ℕ, ◌+◌, ◌*◌, ◌-◌, ◌^◌, ◌<◌, ◌≤◌, length};
 ghost use Rattle.words.specs.Words.{word};
 ghost use Rattle.words.specs.Write.{Wrote};
@@ -76,7 +78,7 @@ fn list_alternatives(
 }
 
 // The first rule that would have over 64 alternatives, or the number of rules; and how many items are listed.
-#[derive(Drop)]
+#[derive(Clone, Copy)]
 pub struct Listed {
     pub rule: usize,
     pub items: usize,

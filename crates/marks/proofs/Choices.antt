@@ -4,13 +4,13 @@ use mathlib.Core.Path.{◌≡◌, refl, sym, ◌∙◌}
 use mathlib.Core.Bool.{Bool, true, false}
 use mathlib.Core.Logic.{◌⊎◌, inl, inr}
 use mathlib.Core.List.{List, [], ◌∷◌, ◌++◌}
-use Prim.Native.Nat.{ℕ, zero, suc, ◌+◌, ◌*◌, ◌≤◌, ◌<◌}
+use Prim.Native.Nat.{ℕ, zero, suc, ◌+◌, ◌≤◌, ◌<◌}
 use native.Mathlib.Omega.{arith}
 use lib.Dec.{leb}
 use lib.ListN.{length, get_or, set, get_or-eq_default}
 use borrow.Author.Tests.{leb-true, leb-false}
 use Rattle.lines.specs.declared.Token.{Token}
-use Rattle.choice.specs.Met.{Choice, choice_size, nobody, triggered, put, token_time}
+use Rattle.choice.specs.Met.{Choice, choice_size, nobody, put, token_time}
 use Rattle.choice.specs.Exists.{chosen, choice_of}
 use Rattle.choice.proofs.Exists.{choice_time, choice-end}
 use Rattle.choice.proofs.Laws.{put_first, put_else}

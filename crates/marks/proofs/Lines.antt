@@ -1,9 +1,9 @@
 -- Laws of the tokens along a line: start and end grow, so the first of some tokens is the earliest, and one that starts or ends later than
 -- the first is one of the others; and of passing over tokens of other values. Assumes nothing.
-use mathlib.Core.Path.{◌≡◌, refl, sym, ap, ◌∙◌}
+use mathlib.Core.Path.{◌≡◌, refl, ap, ◌∙◌}
 use mathlib.Core.Logic.{◌⊎◌, inl, inr, ⊎_elim}
 use mathlib.Core.List.{List, [], ◌∷◌}
-use Prim.Native.Nat.{ℕ, zero, suc, ◌+◌, ◌-◌, ◌*◌, ◌≤◌, ◌<◌}
+use Prim.Native.Nat.{ℕ, zero, suc, ◌+◌, ◌-◌, ◌≤◌, ◌<◌}
 use native.Mathlib.Numerals.{sub-one}
 use native.Mathlib.Omega.{arith}
 use lib.ListN.{length, get_or}
@@ -14,7 +14,6 @@ use Rattle.lines.proofs.Width.{width_few}
 use Rattle.choice.specs.declared.Tokens.{Tokens}
 use Rattle.choice.specs.Exists.{Among}
 use Rattle.choice.proofs.Exists.{among_first, among_later}
-use Rattle.marks.specs.declared.Seen.{Seen}
 use Rattle.marks.specs.Marked.{Skipped, Sought}
 
 -- ---- the tokens along a line

@@ -1,5 +1,7 @@
 // Marks: for each name of an alternative a token such that none in front of it serves in any choice; the marks are raised until no ask tells
 // of one that it is too early.
+#![tactic(auto)]
+
 ghost use Rattle.std.specs.Prelude.{◌≡◌, true, false, ◌||◌, not, ◌+◌, ◌*◌, ◌<◌, ◌≤◌, ◌^◌, length};
 ghost use Rattle.words.specs.Words.{in_set};
 ghost use Rattle.lines.specs.Lines.{token_width};
@@ -13,7 +15,7 @@ use lines::Token;
 use words::word_at;
 
 // A token of a line: how many are left from it on, where its words are, and its times.
-#[derive(Drop)]
+#[derive(Clone, Copy)]
 pub struct Seen {
     pub left: u64,
     pub place: usize,
@@ -124,7 +126,7 @@ fn move_mark(
 }
 
 // Which name is too early: in every choice it has a later token than the marked one. Number 0 is the trigger, or what no mark moves: a time point, the plan's end.
-#[derive(Drop)]
+#[derive(Clone, Copy)]
 pub enum Early {
     Name(u32),
     Nobody,
@@ -281,7 +283,7 @@ fn asks_early(b: &[u32], a: Alternative, c: &[u64; 16]) -> Early
 }
 
 // What raising found: marks from which the choices are to be searched, or no choice for this trigger token, or none for a later one either.
-#[derive(Drop)]
+#[derive(Clone, Copy)]
 pub enum Found {
     Marks,
     NoneNow,

@@ -1,4 +1,6 @@
 // Whether an alternative of a rule can be met for one trigger token: the search, from the marks on.
+#![tactic(auto)]
+
 ghost use Rattle.std.specs.Prelude.{◌≡◌, true, false, ◌+◌, ◌*◌, ◌<◌, ◌≤◌, ◌^◌, length};
 ghost use Rattle.layout.specs.Layout.{offset};
 ghost use Rattle.lines.specs.Lines.{line_of};
@@ -234,7 +236,7 @@ fn carry_on(
 }
 
 // Whether an alternative may have a choice, and marks from which it is to be searched.
-#[derive(Drop)]
+#[derive(Clone, Copy)]
 pub struct Lead {
     pub open: bool,
     pub times: [u64; 16],

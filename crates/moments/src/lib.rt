@@ -1,4 +1,6 @@
 // The state of a sweep over a plan's lines: what is left of each, when the next token ends, and what is left then.
+#![tactic(auto)]
+
 ghost use Rattle.std.specs.Prelude.{◌≡◌, List, map, ℕ, ◌-◌, ◌<◌, ◌≤◌, ◌^◌, length};
 ghost use Rattle.words.specs.Runs.{run};
 ghost use Rattle.event_list.specs.Events.{to_run, later, soonest, by_line};
@@ -6,7 +8,7 @@ ghost use Rattle.event_list.specs.Plans.{line_tokens};
 ghost use Rattle.moments.specs.State.{line_left, lines_left, behind, happens, Small, AllSmall};
 
 // What is left of a line: where its running token stands, how many tokens are left with it, and how long it has still to run.
-#[derive(Drop)]
+#[derive(Clone, Copy)]
 pub struct Left {
     pub place: usize,
     pub tokens: u32,

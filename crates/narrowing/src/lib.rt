@@ -1,5 +1,7 @@
 // What the constraints of a sheet's alternative leave for every two of its tokens: a table of sets of relations, cut by
 // composition until nothing changes.
+#![tactic(auto)]
+
 ghost use Rattle.std.specs.Prelude.{◌≡◌, ◌+◌, ◌*◌, ◌-◌, ◌^◌, ◌≤◌, ◌<◌, length};
 ghost use Rattle.answers.specs.Numbers.{numbers_of};
 ghost use Rattle.words.specs.Words.{word};
@@ -14,7 +16,7 @@ use words::number_at;
 
 // An alternative of a sheet: how many tokens it has, which number its constraints give the first of them, and where the
 // constraints are, and how many.
-#[derive(Drop)]
+#[derive(Clone, Copy)]
 struct Alternative {
     tokens: usize,
     first: usize,

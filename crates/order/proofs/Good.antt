@@ -1,4 +1,5 @@
 -- A plan without faults can be swept, and its ranked words keep its header. Assumes nothing.
+use lib.ListN.{set}
 use mathlib.Core.Path.{◌≡◌, refl, sym, ap, ◌∙◌}
 use mathlib.Core.List.{List, [], ◌∷◌}
 use Prim.Native.Nat.{ℕ, zero, suc, ◌+◌, ◌-◌, ◌*◌, ◌^◌, ◌≤◌, ◌<◌}
@@ -68,7 +69,7 @@ module _ (b p : List ℕ) (g : PlanGood b p) where
 pub tokens_keep : (f : ℕ → ℕ) (w : ℕ) (r : List ℕ) (place : ℕ) (ts : List Token) (k : ℕ) → k ≤ place → word (rank_tokens f w r place ts) k ≡ word r k
 unfolding rank_tokens
 tokens_keep f w r place [] k l = refl
-tokens_keep f w r place (t ∷ ts) k l = tokens_keep f w _ (place + w) ts k (omega arith) ∙ get_or-set_other r (place + 1) k _ 0 (λ e. omega arith)
+tokens_keep f w r place (t ∷ ts) k l = tokens_keep f w (set r (place + 1) (f t.end.tick - f t.start.tick)) (place + w) ts k (omega arith) ∙ get_or-set_other r (place + 1) k _ 0 (λ e. omega arith)
 
 pub lines_keep : (p : List ℕ) (n k : ℕ) → k ≤ 3 + 2 * word p 2 → word (rank_lines p n) k ≡ word p k
 unfolding rank_lines rank_line

@@ -122,7 +122,7 @@ module _ (p ts : List ℕ) (last v : ℕ) (whole r : List ℕ) (place left end k
 length_tokens : (f : ℕ → ℕ) (w : ℕ) (r : List ℕ) (place : ℕ) (ts : List Token) → length (rank_tokens f w r place ts) ≡ length r
 unfolding rank_tokens
 length_tokens f w r place [] = refl
-length_tokens f w r place (t ∷ ts) = length_tokens f w _ (place + w) ts ∙ length-set r (place + 1) _
+length_tokens f w r place (t ∷ ts) = length_tokens f w (set r (place + 1) (f t.end.tick - f t.start.tick)) (place + w) ts ∙ length-set r (place + 1) _
 
 -- new durations change no length
 pub length-lines : (p : List ℕ) (n : ℕ) → length (rank_lines p n) ≡ length p

@@ -1,4 +1,6 @@
 // Books that speak only of order, and a second judge that replaces start and end times by their ranks before it tests rules.
+#![tactic(auto)]
+
 ghost use Rattle.std.specs.Prelude.{◌≡◌, ◌+◌, ◌<◌, ◌≤◌, ◌^◌, length};
 ghost use Rattle.answers.specs.Numbers.{numbers_of};
 ghost use Rattle.words.specs.Words.{word};

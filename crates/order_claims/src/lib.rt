@@ -1,1 +1,2 @@
 // No code: what books that speak only of order promise, as theorems in specs/.
+#![tactic(auto)]

@@ -1,4 +1,6 @@
 // The tokens of a plan: answers 8 to 11, behind those of its layout.
+#![tactic(auto)]
+
 ghost use Rattle.std.specs.Prelude.{◌≡◌, ◌+◌, ◌*◌, ◌≤◌, ◌<◌, ◌^◌, length};
 ghost use Rattle.answers.specs.Numbers.{numbers, numbers_of};
 ghost use Rattle.lines.specs.Lines.{line_count, token_width, line_place};
@@ -10,7 +12,7 @@ use clock::{Later, Time};
 
 // What the tokens of a line are read by: their place and number, how many values the line's variable has, where the book has the
 // first of them, and how many of them the book wholly has.
-#[derive(Drop)]
+#[derive(Clone, Copy)]
 struct Line {
     place: usize,
     tokens: u32,
@@ -20,7 +22,7 @@ struct Line {
 }
 
 // A value, as the book has it: whether the variable lacks it, its least and greatest duration, and its successor set.
-#[derive(Drop)]
+#[derive(Clone, Copy)]
 struct Value {
     unknown: bool,
     least: u32,
@@ -29,7 +31,7 @@ struct Value {
 }
 
 // The fault number of a line's first faulty token, and which token it is; 0 where all are right.
-#[derive(Drop)]
+#[derive(Clone, Copy)]
 struct Found {
     number: u32,
     token: u32,

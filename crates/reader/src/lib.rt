@@ -1,4 +1,6 @@
 // A reader over one timeline of a lent plan: opening it, and its steps.
+#![tactic(auto)]
+
 ghost use Rattle.std.specs.Prelude.{◌≡◌};
 ghost use Rattle.answers.specs.Numbers.{numbers_of};
 ghost use Rattle.lines.specs.Walk.{step_of};
@@ -8,7 +10,7 @@ use answers::Answer;
 use lines::{Position, Step};
 
 // What opening gives: the answer, and where the reader stands.
-#[derive(Drop)]
+#[derive(Clone, Copy)]
 pub struct Opened {
     pub answer: Answer,
     pub at: Position,

@@ -1,4 +1,6 @@
 // The plan that a list of events gives: for each line one pass over the list's words, whatever they are.
+#![tactic(auto)]
+
 ghost use Rattle.std.specs.Prelude.{◌≡◌, ◌+◌, ◌*◌, ◌<◌, ◌≤◌, ◌^◌, length};
 ghost use mathlib.Core.List.{flat_map};
 ghost use Rattle.words.specs.Words.{word};
@@ -12,7 +14,7 @@ ghost use Rattle.reading.specs.Pass.{step, closes_at, closed_at, Puts};
 use words::word_at;
 
 // Where a pass is: the place, how many actions of this event are still to come, and the ticks since the line's last end.
-#[derive(Drop)]
+#[derive(Clone, Copy)]
 struct Pass {
     place: usize,
     left: u32,
@@ -20,7 +22,7 @@ struct Pass {
 }
 
 // Where the next token goes, and how many there are.
-#[derive(Drop)]
+#[derive(Clone, Copy)]
 pub struct Put {
     pub at: usize,
     pub tokens: u32,

@@ -1,5 +1,7 @@
 // Which word of a record of a book or a sheet is wrong: the tests of its words, each given the words before it and the tables before.
 // The record is given with its place, which lies in the book, and with its owners where its words are tested against them.
+#![tactic(auto)]
+
 ghost use Rattle.std.specs.Prelude.{◌≡◌, ◌||◌, cond, [], ◌∷◌, suc, ◌+◌, ◌*◌, ◌<◌, ◌≤◌, ◌^◌, ltb, length};
 ghost use Rattle.words.specs.Least.{first};
 ghost use Rattle.words.specs.Words.{word};

@@ -1,4 +1,6 @@
 // Taking rules out of a lent book: all tables, and the list of desks, are closed up in place.
+#![tactic(auto)]
+
 ghost use Rattle.std.specs.Prelude.{◌≡◌, ◌≤◌, ◌<◌, true, map, length};
 ghost use Rattle.answers.specs.Numbers.{numbers_of};
 ghost use Rattle.words.specs.Words.{word};

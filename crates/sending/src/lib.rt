@@ -1,4 +1,6 @@
 // Sends what happens at a moment: on a line, on all lines, and the event.
+#![tactic(auto)]
+
 ghost use Rattle.std.specs.Prelude.{◌≡◌, ◌+◌, ◌<◌, ◌≤◌, ◌^◌};
 ghost use mathlib.Core.List.{flat_map};
 ghost use Rattle.words.specs.Words.{word};

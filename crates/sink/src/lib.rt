@@ -1,11 +1,13 @@
 // One place where words go: each is stored in a room, if it fits there, and compared with a list.
+#![tactic(auto)]
+
 ghost use Rattle.std.specs.Prelude.{[], ◌∷◌, ◌≡◌, ◌+◌, ◌<◌, ◌≤◌, ◌^◌, set};
 ghost use Rattle.event_list.specs.Events.{action};
 ghost use Rattle.event_list.specs.Words.{action_words};
 ghost use Rattle.event_list.specs.Sends.{Sends};
 
 // How far words were sent: the next place, and whether all so far are the list's.
-#[derive(Drop)]
+#[derive(Clone, Copy)]
 pub struct Sent {
     pub at: usize,
     pub same: bool,

@@ -1,4 +1,6 @@
 // All starts and ends of all timelines in time order: where each line stands, how long until the next token ends, and where the lines stand then.
+#![tactic(auto)]
+
 ghost use Rattle.std.specs.Prelude.{◌≡◌, ℕ, ◌+◌, ◌*◌, ◌<◌, ◌≤◌, ◌^◌, length};
 ghost use Rattle.words.specs.Words.{word};
 ghost use Rattle.sweep.specs.Stands.{first_stand, later, sooner, line_at, soonest, Begun, Later};
@@ -7,7 +9,7 @@ ghost use Rattle.sweep.specs.Sweeps.{Sweeps, Moments};
 use words::{number_at, word_at};
 
 // Where a line stands: its running token's place in the plan, how many tokens are left with it, and how long it has still to run.
-#[derive(Drop)]
+#[derive(Clone, Copy)]
 pub struct Stand {
     pub place: usize,
     pub left: u32,
@@ -15,7 +17,7 @@ pub struct Stand {
 }
 
 // Where each line stands.
-#[derive(Drop)]
+#[derive(Clone, Copy)]
 pub struct Sweep {
     pub lines: [Stand; 16],
 }

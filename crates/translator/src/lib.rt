@@ -1,4 +1,6 @@
 // The translator: from a sheet of relations to the book of rules that says the same, in lent words.
+#![tactic(auto)]
+
 ghost use Rattle.std.specs.Prelude.{◌≡◌, ◌+◌, ◌*◌, ◌<◌, ◌≤◌, length};
 ghost use Rattle.answers.specs.Numbers.{numbers_of};
 ghost use Rattle.words.specs.Least.{first};
@@ -12,6 +14,7 @@ ghost use Rattle.translator.specs.Outcome.{Passed, long_table};
 use answers::Answer;
 
 // The first of tables 3, 4 and 5 that is too long, 6 if the whole is, or 0.
+#[tactic(auto, unfolding(crate::specs::Outcome::long_table))]
 fn too_long(n: usize, m: usize, k: usize, words: usize) -> u32
     ensures { result ≡ long_table n m k words }
 {

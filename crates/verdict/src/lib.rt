@@ -1,4 +1,6 @@
 // The judge: a book and a plan, or a sheet and a plan, each any run of words at all.
+#![tactic(auto)]
+
 ghost use Rattle.std.specs.Prelude.{◌≡◌, ◌+◌, ◌*◌, ◌<◌, ◌^◌};
 ghost use Rattle.words.specs.Words.{word};
 ghost use Rattle.clock.specs.Clock.{no_limit};
@@ -14,7 +16,7 @@ use lines::Token;
 use words::{number_at, word_at};
 
 // What the trigger tokens of one rule came to: whether one isn't met and its number, or how many were examined.
-#[derive(Drop)]
+#[derive(Clone, Copy)]
 pub struct Tally {
     pub unmet: bool,
     pub token: u32,

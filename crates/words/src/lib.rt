@@ -1,4 +1,6 @@
 // Lent words: the word at a place, a run of words put at a place, a file's bytes as words.
+#![tactic(auto)]
+
 ghost use Rattle.std.specs.Prelude.{◌≡◌, ◌+◌, ◌*◌, ◌/◌, ◌^◌, ◌≤◌, ◌<◌, ◌++◌, length, take, drop};
 ghost use Rattle.words.specs.Words.{word, in_set};
 ghost use Rattle.words.specs.Write.{Wrote};

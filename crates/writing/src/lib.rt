@@ -1,4 +1,6 @@
 // The book of a sheet whose choices are listed: its sizes, and its words.
+#![tactic(auto)]
+
 ghost use Rattle.std.specs.Prelude.{◌≡◌, ◌+◌, ◌*◌, ◌-◌, ◌^◌, ◌<◌, ◌≤◌, [], ◌∷◌, length, get_or};
 ghost use Rattle.words.specs.Write.{Wrote, Has};
 ghost use Rattle.layout.specs.Layout.{count, offset};
@@ -53,7 +55,7 @@ fn count_atoms(s: &[u32], item: u64) -> usize
 }
 
 // How many names and how many atoms there are together.
-#[derive(Drop)]
+#[derive(Clone, Copy)]
 pub struct Totals {
     pub names: usize,
     pub atoms: usize,

@@ -1,0 +1,8 @@
+-- `choice::terms_placed` meets its contract: the two terms of an atom. Assumes nothing.
+use Rattle.choice.proofs.SoFar.{placed_terms}
+use Rattle.choice.proofs.terms_placed.Goals as goal
+
+pub returns : goal.returns
+returns c =
+    placed_terms _ _ _ _ _ _ _ _ _ c.word_at.ensures c.word_at-2.ensures c.term_placed.ensures c.word_at-3.ensures
+    c.word_at-4.ensures c.term_placed-2.ensures

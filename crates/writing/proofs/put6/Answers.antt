@@ -1,0 +1,19 @@
+-- `writing::put6` meets its contract: each store is inside. Assumes nothing.
+use native.Mathlib.Omega.{arith}
+use lib.ListN.{length-set}
+use Rattle.writing.proofs.put6.Goals as goal
+
+pub bounds-out-p1 : goal.bounds-out-p1
+bounds-out-p1 c = simp length-set (omega arith)
+
+pub bounds-out-p2 : goal.bounds-out-p2
+bounds-out-p2 c = simp length-set (omega arith)
+
+pub bounds-out-p3 : goal.bounds-out-p3
+bounds-out-p3 c = simp length-set (omega arith)
+
+pub bounds-out-p4 : goal.bounds-out-p4
+bounds-out-p4 c = simp length-set (omega arith)
+
+pub bounds-out-p5 : goal.bounds-out-p5
+bounds-out-p5 c = simp length-set (omega arith)
