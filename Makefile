@@ -2,9 +2,6 @@
 PREFIX ?= /usr/local
 to = $(DESTDIR)$(abspath $(PREFIX))
 
-# the crates with exported functions, each built by itself; the library holds them all
-parts = front_judge front_reader front_desks front_removal front_order front_written front_read front_narrow front_earliest
-
 .PHONY: demo test check lib programs install bench stack believed
 
 demo: programs
@@ -19,13 +16,17 @@ check:
 
 # the static library for C and Rust, with include/tteokbiran.h
 lib:
-	for part in $(parts); do rt staticlib $$part || exit 1; done
-	rm -rf target/lib && mkdir -p target/lib/objects
-	for part in $(parts); do (cd target/lib/objects && ar x ../../staticlib/lib$$part.a) || exit 1; done
-	ar rcs target/lib/libtteokbiran.a target/lib/objects/*.o
+	cd crates/tteokbiran && rt lib
+	rm -rf target/lib && mkdir -p target/lib
+	cp crates/tteokbiran/out/libtteokbiran.a target/lib
 
+# each program is proved, built and run once, in its crate's folder, where there are no files for it
 programs:
-	rt check judge translate forecast events
+	mkdir -p target/bin
+	for name in judge translate forecast events; do \
+	    (cd crates/$$name && rt run) >target/$$name.log 2>&1 || { cat target/$$name.log; exit 1; }; \
+	    cp crates/$$name/out/$$name target/bin || exit 1; \
+	done
 
 # header, library, pkg-config file and programs, below PREFIX
 install: lib programs
