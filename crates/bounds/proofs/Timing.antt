@@ -4,12 +4,12 @@ use mathlib.Core.Path.{◌≡◌, refl, sym, ap, ◌∙◌}
 use mathlib.Core.Bool.{Bool, true, false, false≢true}
 use mathlib.Core.Logic.{◌⊎◌, inl, inr, ⊎_elim}
 use mathlib.Core.List.{List}
-use Prim.Native.Nat.{ℕ, ◌+◌, ◌*◌, ◌-◌, ◌≤◌, ◌<◌}
+use Prim.Native.Nat.{ℕ, ◌+◌, ◌*◌, ◌≤◌, ◌<◌}
 use native.Mathlib.Nat.{eq-or-lt_of_le}
 use native.Mathlib.Omega.{arith}
 use lib.ListN.{length, get_or, set}
 use lib.Seq.{get_or-set_same, get_or-set_other}
-use Rattle.bounds.specs.Bounds.{origin, entry, Holds, Meets, Solves, times, Earliest, Near, reach, Within, Floored}
+use Rattle.bounds.specs.Bounds.{origin, entry, Holds, Meets, times, Earliest, reach, Within, Floored}
 use Rattle.bounds.specs.Steps.{Joined, Raised, far, Closed, Bent, Tested, Fit, Later, Reached, First}
 use Rattle.bounds.proofs.Raising.{Through}
 

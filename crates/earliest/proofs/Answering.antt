@@ -2,7 +2,7 @@
 -- Two answers that are permitted are equal. Assumes nothing.
 use mathlib.Core.Path.{◌≡◌, refl, sym, ap, ◌∙◌}
 use mathlib.Core.Bool.{Bool, true, false, true≢false}
-use mathlib.Core.Logic.{◌↔◌, ◌⊎◌, inl, inr, ⊎_elim}
+use mathlib.Core.Logic.{inl, inr}
 use mathlib.Core.List.{List}
 use Prim.Native.Nat.{ℕ, ◌+◌, ◌*◌, ◌≤◌, ◌<◌}
 use native.Mathlib.Omega.{arith}
@@ -10,7 +10,6 @@ use lib.ListN.{length, get_or}
 use borrow.Author.Tests.{eq-eqb, ne_eqb}
 use Rattle.answers.specs.declared.Numbers.{Numbers}
 use Rattle.answers.specs.Numbers.{numbers_at, numbers}
-use Rattle.words.specs.Words.{word}
 use Rattle.words.proofs.Runs.{length_run}
 use Rattle.clock.specs.Clock.{no_limit}
 use Rattle.layout.specs.Layout.{count}
@@ -22,8 +21,8 @@ use Rattle.book.proofs.Good.{good, no_number}
 use Rattle.bounds.specs.Bounds as bounds
 use Rattle.earliest.specs.declared.Trigger.{Trigger}
 use Rattle.earliest.specs.declared.Places.{Places}
-use Rattle.earliest.specs.Times.{Times, shown_from, shown, Earliest, laid, alternative_of, rule_of, SuitsOf, Yes, No, Told}
-use Rattle.earliest.specs.Steps.{times_of, table_times, Added, Blank, NamesTimed, AtomsTimed, Triggered, trigger_of, places_of, Fits, Asked, Filled, Least, Decided}
+use Rattle.earliest.specs.Times.{Times, shown_from, shown, laid, alternative_of, rule_of, SuitsOf, Told}
+use Rattle.earliest.specs.Steps.{table_times, Added, Blank, NamesTimed, AtomsTimed, Triggered, trigger_of, places_of, Fits, Asked, Filled, Least, Decided}
 use Rattle.earliest.proofs.Decoding.{fits, suits_of, slots_of, slot_zero, slot_start, slot_end, slot_last, asked_of}
 use Rattle.earliest.proofs.Showing.{shown_le}
 

@@ -1,20 +1,19 @@
 -- What a sound book's alternative asks can be put into the table, and is what its decoded trigger, names and atoms ask. Assumes nothing.
 use mathlib.Core.Path.{◌≡◌, refl, sym, ap, ◌∙◌, subst}
 use mathlib.Core.Bool.{Bool}
-use mathlib.Core.Logic.{◌↔◌, ◌⊎◌, inl, inr, ⊎_elim}
+use mathlib.Core.Logic.{◌↔◌, ⊎_elim}
 use mathlib.Core.List.{List, [], ◌∷◌}
 use Prim.Native.Nat.{ℕ, zero, suc, ◌+◌, ◌*◌, ◌≤◌, ◌<◌}
 use native.Mathlib.Omega.{arith}
-use lib.ListN.{length, get_or}
+use lib.ListN.{get_or}
 use Rattle.words.specs.Words.{word}
-use Rattle.words.specs.Runs.{run}
 use Rattle.words.proofs.Runs.{length_run, run_at}
 use Rattle.clock.specs.Clock.{no_limit}
-use Rattle.layout.specs.Layout.{fifth_width, count, offset, record_at, field, owner, values_of}
+use Rattle.layout.specs.Layout.{fifth_width, count, offset, field, owner, values_of}
 use Rattle.book.specs.Rules.{value_at, variable_at, name_at, atom_at, alternative_at, rule_at, variables_of}
 use Rattle.book.specs.Sound.{Exist, BoundsSound, TermSound, AtomSound, Sound}
 use Rattle.book.proofs.Inside.{offsets, first_word, in_range, alternative_ranges, ask_ranges, owner_owns, owner_at}
-use Rattle.earliest.specs.Times.{Times, time_of, AtomMet, Lasting, no_value, no_variable, no_name, no_atom, value_of, TokenTimes, Suits, alternative_of, rule_of, SuitsOf}
+use Rattle.earliest.specs.Times.{Times, time_of, AtomMet, Lasting, no_value, no_variable, no_name, no_atom, value_of, TokenTimes, SuitsOf}
 use Rattle.earliest.specs.Steps.{times_of, LimitsFit, KindFits, AtomFits, AtomTimes, value_place, NameFits, trigger_of, places_of, Fits, Asked}
 use Rattle.earliest.proofs.Filling.{limits_as}
 

@@ -1,6 +1,6 @@
 -- Bounds put into a table: what the table then says is what it said and the bound; and what bounds say of an atom's terms and of a token's
 -- start and end. Assumes nothing.
-use mathlib.Core.Path.{◌≡◌, refl, sym, ap, ◌∙◌}
+use mathlib.Core.Path.{◌≡◌, refl, ap, ◌∙◌}
 use mathlib.Core.Bool.{Bool, true, false, ◌&&◌, ◌||◌, false≢true}
 use mathlib.Core.Logic.{◌↔◌, ◌⊎◌, inl, inr, ⊎_elim}
 use mathlib.Core.List.{List}
@@ -15,7 +15,7 @@ use Rattle.words.specs.Words.{word}
 use Rattle.clock.specs.Clock.{no_limit, last_tick, in_bounds}
 use Rattle.clock.proofs.Laws.{lt_or_ge}
 use Rattle.book.specs.Rules.{atom_at}
-use Rattle.bounds.specs.Bounds.{origin, entry, Meets, Near, reach}
+use Rattle.bounds.specs.Bounds.{origin, entry, Near, reach}
 use Rattle.bounds.proofs.Raising.{within-set}
 use Rattle.earliest.specs.declared.Term.{Term}
 use Rattle.earliest.specs.Times.{time_of, Lasting}

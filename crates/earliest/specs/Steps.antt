@@ -5,7 +5,7 @@ use Rattle.words.specs.Words.{word}
 use Rattle.clock.specs.Clock.{no_limit, last_tick, in_bounds}
 use Rattle.layout.specs.Layout.{offset, record_at, field, owner}
 use Rattle.book.specs.Rules.{atom_at}
-use Rattle.bounds.specs.Bounds.{Holds, Meets, Near, reach, Within, Floored, times}
+use Rattle.bounds.specs.Bounds.{Holds, Meets, reach, Within, Floored, times}
 use Rattle.earliest.specs.declared.Term.{Term}
 use Rattle.earliest.specs.declared.Trigger.{Trigger}
 use Rattle.earliest.specs.declared.Places.{Places}

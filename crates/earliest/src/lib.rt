@@ -118,6 +118,7 @@ fn put_timed(b: &[u32], w: &mut [u64; 144], at: usize)
 }
 
 // Puts the atom at a place: one of jobs counts as met.
+#[tactic(auto, using(crate::proofs::Filling::jobs_met))]
 fn put_atom(b: &[u32], w: &mut [u64; 144], at: usize)
     requires { Open w.old × AtomFits b.now at × (at < 1048576) }
     ensures { Added (AtomTimes b.now at) w.old w.new }

@@ -1,13 +1,13 @@
 -- The events of a plan, sent one by one. Assumes nothing.
-use mathlib.Core.Path.{◌≡◌, refl, sym, ap, ◌∙◌}
+use mathlib.Core.Path.{◌≡◌, sym, ap, ◌∙◌}
 use mathlib.Core.Bool.{Bool, true, false}
 use mathlib.Core.List.{List, [], ◌∷◌, ◌++◌, flat_map, map}
-use Prim.Native.Nat.{ℕ, zero, suc, ◌+◌, ◌-◌, ◌<◌, ◌≤◌}
+use Prim.Native.Nat.{ℕ, suc, ◌+◌, ◌-◌, ◌<◌, ◌≤◌}
 use native.Mathlib.Omega.{arith}
 use lib.ListN.{length}
 use borrow.Author.Tests.{eq-eqb, ne_eqb}
 use Rattle.words.specs.Words.{word}
-use Rattle.event_list.specs.Events.{Line, Event, event, start_on, change_on, later, by_line, soonest, sweep, plan_ticks, events_of}
+use Rattle.event_list.specs.Events.{Line, event, later, by_line, soonest, sweep, plan_ticks, events_of}
 use Rattle.words.specs.Runs.{run}
 use Rattle.lines.specs.Lines.{line_of}
 use Rattle.lines.specs.Ends.{plan_end}

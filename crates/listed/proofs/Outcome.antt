@@ -1,21 +1,20 @@
 -- Answers and the room, case by case; and a plan that passes is ready to be written. Assumes nothing.
 use mathlib.Core.Path.{◌≡◌, refl, sym, ap, ◌∙◌}
-use mathlib.Core.Bool.{true, false, cond}
 use mathlib.Core.List.{List, ◌++◌}
 use Prim.Native.Nat.{ℕ, ◌+◌, ◌≤◌, ◌<◌, ◌^◌}
 use native.Mathlib.Decide.{ℕ_discrete}
 use native.Mathlib.Omega.{arith}
 use lib.ListN.{length, drop}
-use borrow.Author.Tests.{lt-ltb, le-ltb, eq-eqb, ne_eqb}
+use borrow.Author.Tests.{lt-ltb, le-ltb, ne_eqb}
 use Rattle.words.specs.Words.{word}
 use Rattle.words.specs.Write.{puts}
 use Rattle.words.proofs.Write.{puts_eq}
 use Rattle.answers.specs.declared.Numbers.{Numbers}
 use Rattle.answers.specs.Numbers.{numbers, no_fault, or_else}
-use Rattle.answers.proofs.Stages.{else_fault, else_next, stages}
+use Rattle.answers.proofs.Stages.{else_fault, else_next}
 use Rattle.event_list.specs.Plans.{list_of}
-use Rattle.event_list.specs.Answers.{write_fault, room_fault, into, room_after}
-use Rattle.event_list.proofs.Good.{Writes, writes, in_time}
+use Rattle.event_list.specs.Answers.{room_fault, into, room_after}
+use Rattle.event_list.proofs.Good.{Writes, in_time}
 use Rattle.event_list.proofs.Size.{longest}
 use Rattle.listed.specs.Ready.{Ready}
 

@@ -30,7 +30,6 @@ use Rattle.marks.specs.declared.Found.TheVariants.{Marks, NoneNow, NoneEver}
 use Rattle.marks.specs.Marked.{Later, Choosing, Marked, Never, Raised}
 use Rattle.marks.proofs.Choices.{choice_trigger, choice-long}
 use Rattle.marks.proofs.Marks.{later_same}
-use Rattle.matching.specs.Search.{Leads}
 use Rattle.matching.specs.Carried.{row_size, rests_at, slot_size, row, Storing, Keeping, Slot, Going, Carry, Carried, Settled}
 
 -- ---- words that are stored

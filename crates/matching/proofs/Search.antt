@@ -2,10 +2,9 @@
 -- tokens given so far every choice has one of those; and one step along them. Assumes nothing.
 use mathlib.Core.Path.{◌≡◌, refl, sym, ap, ◌∙◌}
 use mathlib.Core.Bool.{Bool, true, false, ◌&&◌, ◌||◌, not, false≢true}
-use mathlib.Core.Logic.{⊎_elim}
 use mathlib.Core.List.{List, [], ◌∷◌, ◌++◌}
-use Prim.Native.Nat.{ℕ, zero, suc, ◌+◌, ◌-◌, ◌*◌, ◌^◌, ◌≤◌, ◌<◌}
-use native.Mathlib.Nat.{add-zero, zero-mul}
+use Prim.Native.Nat.{ℕ, zero, suc, ◌+◌, ◌-◌, ◌*◌, ◌^◌, ◌<◌}
+use native.Mathlib.Nat.{add-zero}
 use native.Mathlib.Omega.{arith}
 use native.Mathlib.Numerals.{sub-one}
 use lib.Dec.{eqb, ltb}
@@ -24,9 +23,9 @@ use Rattle.lines.specs.Ends.{plan_end}
 use Rattle.choice.specs.declared.Alternative.{Alternative}
 use Rattle.choice.specs.declared.Tokens.{Tokens}
 use Rattle.choice.specs.Met.{Choice, choice_size, nobody, triggered, put, token_time, place}
-use Rattle.choice.specs.Exists.{Among, Serves, Placed, no_name, chosen, choice_of}
+use Rattle.choice.specs.Exists.{Serves, Placed, no_name, chosen, choice_of}
 use Rattle.choice.specs.Asked.{asks_hold, placeable, triggered_in, hold_so_far, Tied, tokens_of}
-use Rattle.choice.proofs.Exists.{and_both, any_some, some-any, placed_of, of_placed}
+use Rattle.choice.proofs.Exists.{and_both, any_some, some-any, placed_of}
 use Rattle.choice.proofs.Laws.{chosen-long}
 use Rattle.choice.proofs.SoFar.{so_far_all, so_far_fails}
 use Rattle.marks.specs.Marked.{Choosing, Source}

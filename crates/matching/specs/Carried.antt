@@ -1,5 +1,5 @@
 -- Marks that are kept from one trigger token to the next: the state of the search between two calls. Assumes nothing.
-use Rattle.std.specs.Prelude.{◌≡◌, Bool, true, false, List, [], ◌∷◌, ℕ, ◌+◌, ◌*◌, ◌≤◌, ◌<◌, length, get_or, set}
+use Rattle.std.specs.Prelude.{◌≡◌, Bool, true, false, List, ℕ, ◌+◌, ◌*◌, ◌≤◌, ◌<◌, length, get_or, set}
 use Rattle.words.specs.Runs.{run}
 use Rattle.lines.specs.declared.Token.{Token}
 use Rattle.choice.specs.declared.Alternative.{Alternative}

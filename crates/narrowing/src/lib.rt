@@ -103,6 +103,7 @@ fn begin(m: &mut [u32], n: usize)
 }
 
 // The word at a, cut by the set d.
+#[tactic(auto, unfolding(crate::specs::First::cut_by))]
 fn cut_by(m: &mut [u32], a: usize, d: u32)
     requires { a < length m.old }
     ensures { m.new ≡ cut_by m.old a d }

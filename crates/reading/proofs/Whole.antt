@@ -1,7 +1,7 @@
 -- What a loop has put, and what is left to put: the tokens of a line, the heads and the tokens of all lines; and the plan. Assumes nothing.
 use mathlib.Core.Path.{◌≡◌, refl, sym, ap, ◌∙◌}
 use mathlib.Core.List.{List, [], ◌∷◌, ◌++◌, flat_map, append_assoc, append-nil}
-use Prim.Native.Nat.{ℕ, zero, suc, ◌+◌, ◌*◌, ◌-◌, ◌≤◌, ◌<◌}
+use Prim.Native.Nat.{ℕ, suc, ◌+◌, ◌*◌, ◌-◌, ◌≤◌, ◌<◌}
 use native.Mathlib.Omega.{arith}
 use lib.ListN.{length, set, length-append}
 use Rattle.words.specs.Words.{word}
@@ -11,7 +11,7 @@ use Rattle.words.specs.Write.{Wrote}
 use Rattle.words.proofs.Write.{none, then, length-puts}
 use Rattle.event_list.specs.Events.{Line}
 use Rattle.event_list.specs.Plans.{line_words, head_words, plan_words}
-use Rattle.event_list.specs.Reading.{closed, read_from, read_line, read_lines}
+use Rattle.event_list.specs.Reading.{read_from, read_line, read_lines}
 use Rattle.event_list.proofs.Passes.{read_over, read_on}
 use Rattle.sink.proofs.Lists.{flat_append}
 use Rattle.reading.specs.declared.Pass.{Pass}

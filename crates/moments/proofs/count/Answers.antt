@@ -12,8 +12,7 @@ overflow_add-sum c =
 
 pub loop-v-preserved : goal.loop-v-preserved
 loop-v-preserved c =
-    let l = c in
-    let inv = l.loop-v.invariant in
+    let inv = c.loop-v.invariant in
     let one = c.count_on-sum.ensures in (
       omega arith,
       omega (arith, inv.1, one.1),

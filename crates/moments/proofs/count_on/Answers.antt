@@ -21,6 +21,4 @@ returns-then-l-eq1 c =
 
 pub returns : goal.returns
 returns c =
-    let apart = c in
-    let start = apart in
-    (λ p k. count_both p _ _ _ _ start.if-l-eq0.false apart.if-first.false apart.if-l-m.false c.if-l-eq1.false, omega arith)
+    (λ p k. count_both p _ _ _ _ c.if-l-eq0.false c.if-first.false c.if-l-m.false c.if-l-eq1.false, omega arith)

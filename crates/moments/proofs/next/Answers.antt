@@ -10,9 +10,8 @@ returns-then-l-eq0 c = (behind-none _ _ c.if-l-eq0.true, c.requires)
 
 pub returns : goal.returns
 returns c =
-    let start = c in
     let some = c.if-l-eq0.false in
     let width = c.token_width-width.ensures in (
-      behind-some _ _ some _ refl (ap (λ w. start.args.l.place + w) width.0) c.word_at-run.ensures,
-      record { place = omega (arith, width.2, start.requires.place, some) },
+      behind-some _ _ some _ refl (ap (λ w. c.args.l.place + w) width.0) c.word_at-run.ensures,
+      record { place = omega (arith, width.2, c.requires.place, some) },
     )

@@ -9,20 +9,17 @@ loop-v-init c =
 
 pub loop-v-preserved-then-r-m : goal.loop-v-preserved-then-r-m
 loop-v-preserved-then-r-m c =
-    let l = c in
     let more = c.loop-v-test.true in
     let r = c.to_run-r.ensures in
-    (omega arith, λ p. soonest-least p _ _ _ _ _ _ more l.loop-v.invariant.0 (l.loop-v.invariant.1 p) (r p) c.if-r-m.true)
+    (omega arith, λ p. soonest-least p _ _ _ _ _ _ more c.loop-v.invariant.0 (c.loop-v.invariant.1 p) (r p) c.if-r-m.true)
 
 pub loop-v-preserved : goal.loop-v-preserved
 loop-v-preserved c =
-    let l = c in
     let more = c.loop-v-test.true in
     let r = c.to_run-r.ensures in
-    (omega arith, λ p. soonest_keeps p _ _ _ _ _ _ more l.loop-v.invariant.0 (l.loop-v.invariant.1 p) (r p) (omega arith))
+    (omega arith, λ p. soonest_keeps p _ _ _ _ _ _ more c.loop-v.invariant.0 (c.loop-v.invariant.1 p) (r p) (omega arith))
 
 pub returns : goal.returns
 returns c p =
-    let l = c in
-    let e : l.loop-v.v ≡ 0 = omega (arith, c.loop-v-test.false) in
-    soonest-all p _ _ _ _ _ e (l.loop-v.invariant.1 p)
+    let e : c.loop-v.v ≡ 0 = omega (arith, c.loop-v-test.false) in
+    soonest-all p _ _ _ _ _ e (c.loop-v.invariant.1 p)

@@ -1,0 +1,6 @@
+-- `earliest::least_times` meets its contract. Assumes nothing.
+use Rattle.earliest.proofs.Answering.{least}
+use Rattle.earliest.proofs.least_times.Goals as goal
+
+pub returns : goal.returns
+returns c = least c.fill.ensures c.earliest.ensures

@@ -1,0 +1,11 @@
+-- `matching::load` meets its contract. The loop's invariant: the first i words are loaded. The measure is the words left. Assumes nothing.
+use Prim.Native.Nat.{◌-◌, ◌≤◌}
+use Rattle.matching.specs.Carried.{row_size}
+use Rattle.matching.proofs.Carrying.{Loading}
+use Rattle.matching.proofs.load.Given as goal
+
+abbrev pub invariant-loop-i : goal.invariant-loop-i
+invariant-loop-i l = (l.i ≤ row_size) × Loading l.m l.k l.c l.i
+
+abbrev pub decreases-loop-i : goal.decreases-loop-i
+decreases-loop-i l = row_size - l.i

@@ -1,0 +1,28 @@
+-- `records::fifth_word` meets its contract: an atom's or a constraint's tests, at its owners. Assumes nothing.
+use native.Mathlib.Nat.{add-zero}
+use native.Mathlib.Omega.{arith}
+use borrow.Author.Rules.{rules}
+use borrow.Author.Tests.{eq-eqb, ne_eqb}
+use Rattle.records.specs.Wrong.{fifth_tests, fifth_tests_of, wrong_word}
+use Rattle.layout.proofs.Bounds.{three_wide, six_wide}
+use Rattle.records.proofs.fifth_word.Goals as goal
+
+pub constraint_word-requires : goal.constraint_word-requires
+unfolding wrong_word fifth_tests fifth_tests_of
+constraint_word-requires c =
+    omega (arith, three_wide c.if-e-eq2.true)
+
+pub atom_word-requires : goal.atom_word-requires
+unfolding wrong_word fifth_tests fifth_tests_of
+atom_word-requires c =
+    omega (arith, six_wide c.if-e-eq2.false)
+
+pub returns-then-e-eq2 : goal.returns-then-e-eq2
+unfolding wrong_word fifth_tests fifth_tests_of
+returns-then-e-eq2 c =
+    (simp (eq-eqb _ _ c.if-e-eq2.true, add-zero) (cc), search rules)
+
+pub returns-else-e-eq2 : goal.returns-else-e-eq2
+unfolding wrong_word fifth_tests fifth_tests_of
+returns-else-e-eq2 c =
+    (simp (ne_eqb _ _ c.if-e-eq2.false, add-zero) (cc), search rules)
