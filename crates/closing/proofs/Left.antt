@@ -11,7 +11,6 @@ use Rattle.words.specs.Runs.{rows}
 use Rattle.words.proofs.Runs.{length_run}
 use Rattle.layout.specs.Layout.{offset}
 use Rattle.book.specs.Rules.{rule_at, alternative_at}
-use Rattle.book.specs.Encode.{atoms}
 use Rattle.listing.proofs.Going.{Going, run_more, run_none, drop_more, drop-none}
 use Rattle.closing.specs.Left.{Ranged, numbers_from, total, rule_in, alternative_in, alternatives_of, words_at, alt_word, part, alts_from, rules_from, rows_from, parts_from, total_from}
 

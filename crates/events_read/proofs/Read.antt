@@ -1,7 +1,7 @@
 -- Which lists the writer could have made; what reading answers and leaves in the room, case by case. Assumes nothing.
 use mathlib.Core.Path.{◌≡◌, refl, sym, ap, ◌∙◌}
 use mathlib.Core.Bool.{Bool, true, false, ◌&&◌, not, cond, true≢false}
-use mathlib.Core.List.{List, ◌++◌}
+use mathlib.Core.List.{List}
 use Prim.Native.Nat.{ℕ, ◌+◌, ◌≤◌, ◌<◌}
 use native.Mathlib.Decide.{ℕ_discrete}
 use native.Mathlib.Omega.{arith}
@@ -14,8 +14,7 @@ use Rattle.words.specs.Write.{puts, Wrote}
 use Rattle.words.proofs.Write.{puts_eq, length-puts}
 use Rattle.answers.specs.declared.Numbers.{Numbers}
 use Rattle.answers.specs.Numbers.{numbers, no_fault, or_else}
-use Rattle.answers.proofs.Stages.{else_fault, else_next}
-use Rattle.layout.specs.Layout.{count}
+use Rattle.answers.proofs.Stages.{else_next}
 use Rattle.book.specs.Fault.{book_fault}
 use Rattle.book.proofs.Good.{good, no_number}
 use Rattle.book.proofs.Sound.{sound}
@@ -24,7 +23,7 @@ use Rattle.event_list.specs.Plans.{list_of, plan_words}
 use Rattle.event_list.specs.Reading.{read_lines, plan_from}
 use Rattle.event_list.specs.Sends.{Sends, agrees, is_words}
 use Rattle.event_list.specs.Answers.{into, room_after, could_be_written, list_fault, read_events, read_room}
-use Rattle.event_list.proofs.Good.{Writes, writes}
+use Rattle.event_list.proofs.Good.{writes}
 use Rattle.event_list.proofs.Size.{longest}
 use Rattle.event_list.proofs.Again.{could_iff}
 use Rattle.listed.specs.Ready.{Ready}

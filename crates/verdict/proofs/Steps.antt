@@ -10,7 +10,6 @@ use native.Mathlib.Omega.{arith}
 use lib.Dec.{ltb, eqb}
 use borrow.Author.Tests.{lt-ltb, le-ltb, eq-eqb, ne_eqb}
 use Rattle.words.specs.Words.{word}
-use Rattle.words.specs.Least.{first}
 use Rattle.words.specs.Runs.{run}
 use Rattle.clock.specs.Clock.{no_limit}
 use Rattle.answers.specs.Numbers.{numbers}
