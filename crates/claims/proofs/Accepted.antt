@@ -18,7 +18,6 @@ use Rattle.answers.proofs.Stages.{else_next, stages}
 use Rattle.words.specs.Lists.{All}
 use Rattle.words.specs.Least.{first}
 use Rattle.clock.specs.Clock.{no_limit}
-use Rattle.layout.specs.Layout.{count}
 use Rattle.book.specs.Rules.{Rule, rules_of, variables_of}
 use Rattle.book.specs.Encode.{atoms, constraints}
 use Rattle.book.specs.Sound.{Sound}

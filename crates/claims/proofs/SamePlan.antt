@@ -12,7 +12,7 @@ use Rattle.answers.specs.Numbers.{no_fault}
 use Rattle.answers.proofs.Stages.{stages}
 use Rattle.words.specs.Words.{word}
 use Rattle.words.specs.Lists.{All}
-use Rattle.words.specs.Least.{Clear, least}
+use Rattle.words.specs.Least.{Clear}
 use Rattle.words.proofs.Least.{least_law, none_below}
 use Rattle.layout.specs.Layout.{count, field, values_of}
 use Rattle.layout.proofs.Tests.{not_so}

@@ -22,7 +22,7 @@ use Rattle.plan.specs.Fault as plan
 use Rattle.lines.proofs.Laws.{line-length, line-token}
 use Rattle.plan.specs.Good.{TokenGood}
 use Rattle.choice.specs.Met.{nobody}
-use Rattle.claims.specs.Papers.{no_value, value_of, Lasts, Follows, token_of, duration_of, Timeline, no_variable, Timelines, Plan}
+use Rattle.claims.specs.Papers.{no_value, value_of, Lasts, Follows, token_of, Timeline, no_variable, Timelines, Plan}
 use Rattle.claims.specs.Timelines.{durations_before, TokenKeeps, variable_of}
 
 -- "A token starts at the sum of the durations before it on its line and ends a duration later", of every timeline as the papers define it

@@ -3,7 +3,6 @@ use Rattle.std.specs.Prelude.{◌≡◌, ◌↔◌, ◌⊎◌, List, ℕ, ◌+�
 use Rattle.answers.specs.declared.Numbers.{Numbers}
 use Rattle.answers.specs.Numbers.{numbers_at, numbers}
 use Rattle.layout.specs.Layout.{count, ending}
-use Rattle.book.specs.Fault as book
 use Rattle.book.specs.Sound.{Sound}
 use Rattle.book.specs.Rules.{variables_of}
 use Rattle.lines.specs.Lines.{token_width, line_of}

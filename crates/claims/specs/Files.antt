@@ -2,8 +2,6 @@
 use Rattle.std.specs.Prelude.{◌≡◌, List, [], ℕ, ◌%◌, ◌<◌, length, take}
 use Rattle.answers.specs.declared.Numbers.{Numbers}
 use Rattle.words.specs.Bytes.{file_words, bytes_of}
-use Rattle.book.specs.Fault as book
-use Rattle.plan.specs.Fault as plan
 use Rattle.verdict.specs.Judged.{judged, judged_sheet}
 use Rattle.translator.specs.Translation.{translation}
 

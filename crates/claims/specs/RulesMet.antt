@@ -5,7 +5,7 @@ use Rattle.book.specs.Rules.{Rule}
 use Rattle.lines.specs.declared.Token.{Token}
 use Rattle.choice.specs.Met.{Choice, nobody}
 use Rattle.verdict.specs.Judged.{first_unmet, rule_unmet}
-use Rattle.claims.specs.Papers.{token_of, Met}
+use Rattle.claims.specs.Papers.{token_of}
 
 -- ---- what is claimed
 

@@ -10,4 +10,5 @@ pub mod EasingExamples
 pub mod Numbering
 pub mod FirstUnmet
 pub mod EasingLaws
+pub mod Removed
 pub mod Removing

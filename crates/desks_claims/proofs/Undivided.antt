@@ -53,14 +53,17 @@ module _ (b p desks : List ℕ) (f : ListFits b desks) where
             elim (ℕ_discrete (word desks i) 0) [ yes e ↦ x.satisfied i l e | no n ↦ y.satisfied i l (omega (arith, low i l)) ]);
       }
 
+  -- so what the judge accepts each desk accepts
+  desk_too : (desk : ℕ) → desk ≤ 1 → (judged b p).number ≡ 0 → (judged_desk b p desks desk).number ≡ 0
+  desk_too desk d h = (desk_accepted b p desks desk).1 (to_desk desk d ((accepted b p).0 h))
+
+  -- and what both desks accept the judge accepts
+  judge_too : (judged_desk b p desks 0).number ≡ 0 → (judged_desk b p desks 1).number ≡ 0 → (judged b p).number ≡ 0
+  judge_too g h = (accepted b p).1 (from_desks ((desk_accepted b p desks 0).0 g) ((desk_accepted b p desks 1).0 h))
+
   -- THE THEOREMS: accepted exactly if both desks accept
   pub both_accept : ((judged b p).number ≡ 0) ↔ (((judged_desk b p desks 0).number ≡ 0) × ((judged_desk b p desks 1).number ≡ 0))
-  both_accept = (
-    λ h.
-        let a = (accepted b p).0 h in
-        ((desk_accepted b p desks 0).1 (to_desk 0 (omega arith) a), (desk_accepted b p desks 1).1 (to_desk 1 (omega arith) a)),
-    λ h. (accepted b p).1 (from_desks ((desk_accepted b p desks 0).0 h.0) ((desk_accepted b p desks 1).0 h.1)),
-  )
+  both_accept = (λ h. (desk_too 0 (omega arith) h, desk_too 1 (omega arith) h), λ h. judge_too h.0 h.1)
 
   -- what the judge counts, where it accepts
   counts_all : (judged b p).number ≡ 0 → judged b p ≡ numbers 0 (examined (line_of p) (rules_of atoms b)) 0
@@ -73,14 +76,14 @@ module _ (b p desks : List ℕ) (f : ListFits b desks) where
       let sum = shared (line_of p) desks (rules_of atoms b) low in (
         λ h.
             let z = ap (λ (r : Numbers). r.number) h in
-            let d = both_accept.0 z in
             let all : n ≡ examined (line_of p) (rules_of atoms b) = ap (λ (r : Numbers). r.a) (sym h ∙ counts_all z) in
-            (_, _, desk_answer b p desks 0 d.0, desk_answer b p desks 1 d.1, all ∙ sum),
+            (_, _, desk_answer b p desks 0 (desk_too 0 (omega arith) z), desk_answer b p desks 1 (desk_too 1 (omega arith) z), all ∙ sum),
         λ h.
-            let z = both_accept.1 (ap (λ (r : Numbers). r.number) h.2, ap (λ (r : Numbers). r.number) h.3) in
-            let d = both_accept.0 z in
-            let x = ap (λ (r : Numbers). r.a) (sym (desk_answer b p desks 0 d.0) ∙ h.2) in
-            let y = ap (λ (r : Numbers). r.a) (sym (desk_answer b p desks 1 d.1) ∙ h.3) in
+            let g = ap (λ (r : Numbers). r.number) h.2 in
+            let d = ap (λ (r : Numbers). r.number) h.3 in
+            let z = judge_too g d in
+            let x = ap (λ (r : Numbers). r.a) (sym (desk_answer b p desks 0 g) ∙ h.2) in
+            let y = ap (λ (r : Numbers). r.a) (sym (desk_answer b p desks 1 d) ∙ h.3) in
             let e = h.4 in
             counts_all z ∙ ap (λ (k : ℕ). numbers 0 k 0) (omega arith),
       )

@@ -4,7 +4,6 @@ use Rattle.answers.specs.declared.Numbers.{Numbers}
 use Rattle.answers.specs.Numbers.{numbers}
 use Rattle.clock.specs.Clock.{no_limit}
 use Rattle.book.proofs.Specimen.{book_e, same}
-use Rattle.plan.specs.Fault as plan
 use Rattle.claims.specs.Specimens.{plan_p1, plan_p2}
 use Rattle.desks.specs.Own.{judged_desk}
 

@@ -161,19 +161,20 @@ module _ (b p : List ℕ) (room : List ℕ) where
   abbrev number_of : Numbers → ℕ
   number_of n = n.number
 
+  -- what 21 says
+  at-21 : written.number ≡ 21 → ((book.book_fault 1 b).number ≡ 0) × ((plan.plan_fault b p).number ≡ 0) × (length room < length (list_of p))
+  at-21 q =
+      write-cases _ (λ n. absurd (omega (arith, book-numbers b, ap number_of (write-book n))))
+      (λ z n. absurd (omega (arith, plan-numbers b p, ap number_of (write-plan z n))))
+      (λ z k l. (z, k, l))
+      (λ z k l. absurd (omega (arith, ap number_of (done z k l))))
+
   -- "21 for short room with the words needed": exactly if book and plan pass and the room is too short
   pub write-21 : (written.number ≡ 21) ↔ (((book.book_fault 1 b).number ≡ 0) × ((plan.plan_fault b p).number ≡ 0) × (length room < length (list_of p)))
-  write-21 = (
-    λ q.
-        write-cases _ (λ n. absurd (omega (arith, book-numbers b, ap number_of (write-book n))))
-        (λ z n. absurd (omega (arith, plan-numbers b p, ap number_of (write-plan z n))))
-        (λ z k l. (z, k, l))
-        (λ z k l. absurd (omega (arith, ap number_of (done z k l)))),
-    λ h. ap number_of (short h.0 h.1 h.2),
-  )
+  write-21 = (at-21, λ h. ap number_of (short h.0 h.1 h.2))
 
   pub write-needed : written.number ≡ 21 → written ≡ numbers 21 (length (list_of p)) 0
-  write-needed q = let h = write-21.0 q in short h.0 h.1 h.2
+  write-needed q = let h = at-21 q in short h.0 h.1 h.2
 
   -- 0 exactly if all is well
   pub write-0 : (written.number ≡ 0) ↔ (((book.book_fault 1 b).number ≡ 0) × ((plan.plan_fault b p).number ≡ 0) × Fits (list_of p) room)
@@ -259,19 +260,20 @@ module _ (b w : List ℕ) (room : List ℕ) where
   abbrev num : Numbers → ℕ
   num n = n.number
 
+  -- what 20 says
+  at-20 : read.number ≡ 20 → ((book.book_fault 1 b).number ≡ 0) × (Made b w → ⊥)
+  at-20 q =
+      read-cases _ (λ n. absurd (omega (arith, book-numbers b, ap num (read-book n))))
+      (λ z n. (z, n))
+      (λ z m l. absurd (omega (arith, ap num (read_short z m l))))
+      (λ z m l. absurd (omega (arith, ap num (read-good z m l))))
+
   -- 20 exactly if no plan that passes 5 to 11 and 18 writes to it
   pub read-20 : (read.number ≡ 20) ↔ (((book.book_fault 1 b).number ≡ 0) × (Made b w → ⊥))
-  read-20 = (
-    λ q.
-        read-cases _ (λ n. absurd (omega (arith, book-numbers b, ap num (read-book n))))
-        (λ z n. (z, n))
-        (λ z m l. absurd (omega (arith, ap num (read_short z m l))))
-        (λ z m l. absurd (omega (arith, ap num (read-good z m l)))),
-    λ h. ap num (unmade h.0 h.1),
-  )
+  read-20 = (at-20, λ h. ap num (unmade h.0 h.1))
 
   pub read-no-place : read.number ≡ 20 → read ≡ numbers 20 0 0
-  read-no-place q = let h = read-20.0 q in unmade h.0 h.1
+  read-no-place q = let h = at-20 q in unmade h.0 h.1
 
   -- "then 21", with the plan's words
   pub read-21 : (read.number ≡ 21) ↔ (((book.book_fault 1 b).number ≡ 0) × Made b w × (length room < length (plan_from b w)))

@@ -21,18 +21,22 @@ module _ (b p : List ℕ) (sound : (book_fault 1 b).number ≡ 0) (passes : (pla
   abbrev w : Writes b p
   w = writes b p sound passes
 
+  -- events of this shape that say what happens in a plan are the plan's
+  events_are : (es : List Event) → Shaped es → Say p es → es ≡ events_of (plan_lines p)
+  events_are es h k =
+      events_only es (events_of (plan_lines p)) h (events_shape (plan_lines p) (together b p w)) (λ T. k T ∙ sym (events_at p (together b p w) T))
+
   -- THE MEANING: a plan's events are exactly those that have this shape and say what happens in it
   pub events_iff : (es : List Event) → (es ≡ events_of (plan_lines p)) ↔ (Shaped es × Say p es)
   events_iff es = (
     λ e. (rw e (events_shape (plan_lines p) (together b p w)), λ T. rw e (events_at p (together b p w) T)),
-    λ h. events_only es (events_of (plan_lines p)) h.0 (events_shape (plan_lines p) (together b p w)) (λ T. h.1 T
-        ∙ sym (events_at p (together b p w) T)),
+    λ h. events_are es h.0 h.1,
   )
 
   -- so the list is the words of such events
   pub list_says : (es : List Event) → Shaped es → Say p es → list_of p ≡ list_words (word p 0) es
   unfolding list_of
-  list_says es h k = rw (sym ((events_iff es).1 (h, k)))
+  list_says es h k = rw (sym (events_are es h k))
 
   -- "The longest is 65,367 words in edition 1 .. and 54,515 in edition 2": no number of a list leaves 32 bits
   pub longest : ((word p 0 ≡ 2 → ⊥) → length (list_of p) ≤ 65367) × (word p 0 ≡ 2 → length (list_of p) ≤ 54515)

@@ -30,7 +30,7 @@ module _ (b : List ℕ) (sound : (book_fault 1 b).number ≡ 0) where
 
   -- "no two plans share a list", for one book
   pub one_list : (p q : List ℕ) → (plan_fault b p).number ≡ 0 → (plan_fault b q).number ≡ 0 → list_of p ≡ list_of q → p ≡ q
-  one_list p q h k e = sym (write_then_read p h) ∙ ap (plan_from b) e ∙ write_then_read q k
+  one_list p q h k e = sym (round b p (writes b p sound h)) ∙ ap (plan_from b) e ∙ round b q (writes b q sound k)
 
 -- "an edition 1 plan still gives list edition 1", an edition 2 plan list edition 2; and "the list's edition decides the plan's"
 pub list_edition : (p : List ℕ) → word (list_of p) 0 ≡ word p 0
@@ -60,7 +60,7 @@ module _ (b : List ℕ) where
       let there : take (length (list_of p)) (written_room b p room) ≡ list_of p = ap (take (length (list_of p))) (written-done b p room z).1
       ∙ first-words (list_of p) room in
       let made : Made b (list_of p) = record { plan = p; passes = g.1; list = refl } in
-      let same : plan_from b (list_of p) ≡ p = write_then_read b g.0 p g.1 in
+      let same : plan_from b (list_of p) ≡ p = round b p (writes b p g.0 g.1) in
       let done = read_done b (list_of p) second ((read-0 b (list_of p) second).1 (g.0, made, rw same fits)) in
       rw there (rw same at done)
 

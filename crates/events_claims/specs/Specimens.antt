@@ -3,7 +3,6 @@ use Rattle.std.specs.Prelude.{Bool, ◌&&◌, List, [], ◌∷◌, ◌++◌, ℕ
 use Rattle.answers.specs.declared.Numbers.{Numbers}
 use Rattle.answers.specs.Numbers.{numbers}
 use Rattle.clock.specs.Clock.{no_limit}
-use Rattle.book.specs.Fault as book
 use Rattle.book.proofs.Specimen.{book_e, same}
 use Rattle.event_list.specs.Sends.{is_words}
 use Rattle.event_list.specs.Answers.{written_events, written_room, read_events, read_room}

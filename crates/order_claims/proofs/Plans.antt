@@ -11,7 +11,7 @@ use Rattle.layout.specs.Layout.{count}
 use Rattle.book.specs.Encode.{atoms}
 use Rattle.book.specs.Rules.{rules_of}
 use Rattle.book.specs.Fault.{book_fault}
-use Rattle.lines.specs.Lines.{token, line_count, start_of, line_of}
+use Rattle.lines.specs.Lines.{line_count, start_of, line_of}
 use Rattle.lines.proofs.Laws.{line-length, line-token}
 use Rattle.plan.specs.Fault.{plan_fault}
 use Rattle.plan.proofs.Good.{no_number}

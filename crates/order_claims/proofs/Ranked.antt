@@ -8,7 +8,7 @@ use native.Mathlib.Nat.{add-zero, add-suc, mul-zero, mul-suc, mul-le-mul_left, m
 use native.Mathlib.Decide.{dec_le, ℕ_discrete}
 use native.Mathlib.Omega.{arith}
 use lib.Dec.{ltb, eqb}
-use lib.ListN.{length, get_or, length-set, length-map}
+use lib.ListN.{length, get_or, set, length-set, length-map}
 use lib.Seq.{get_or-set_same, get_or-set_other, ext_get_or}
 use borrow.Author.Tests.{ltb-true, ltb-false, lt-ltb, le-ltb, eqb-true}
 use Rattle.answers.specs.Numbers.{no_fault, or_else}
@@ -47,13 +47,17 @@ use Rattle.order_claims.specs.Ranked.{by_rank}
 -- ---- what putting durations changes
 
 module _ (f : ℕ → ℕ) (w : ℕ) (two : 2 ≤ w) where
+  -- the words r with the new duration of the token at a place
+  abbrev put : List ℕ → ℕ → Token → List ℕ
+  put r place t = set r (place + 1) (f t.end.tick - f t.start.tick)
+
   -- nothing behind the tokens
   keep-behind : (r : List ℕ) (place : ℕ) (ts : List Token) (k : ℕ) → place + w * length ts ≤ k → word (rank_tokens f w r place ts) k ≡ word r k
   unfolding rank_tokens
   keep-behind r place [] k l = refl
   keep-behind r place (t ∷ ts) k l =
       let step : w * suc (length ts) ≡ w * length ts + w = mul-suc w (length ts) in
-      keep-behind _ (place + w) ts k (omega arith) ∙ get_or-set_other r (place + 1) k _ 0 (λ e. omega arith)
+      keep-behind (put r place t) (place + w) ts k (omega arith) ∙ get_or-set_other r (place + 1) k _ 0 (λ e. omega arith)
 
   -- of a token only the second word
   keep_other : (r : List ℕ) (place : ℕ) (ts : List Token) (j o : ℕ) → o < w → (o ≡ 1 → ⊥)
@@ -65,7 +69,7 @@ module _ (f : ℕ → ℕ) (w : ℕ) (two : 2 ≤ w) where
       tokens_keep f w _ (place + w) ts (place + w * 0 + o) (omega arith) ∙ get_or-set_other r (place + 1) (place + w * 0 + o) _ 0 (λ e. h (omega arith))
   keep_other r place (t ∷ ts) (suc j) o l h =
       let at : place + w * suc j + o ≡ place + w + w * j + o = omega (arith, mul-suc w j) in
-      rw at (keep_other _ (place + w) ts j o l h ∙ get_or-set_other r (place + 1) (place + w + w * j + o) _ 0 (λ e. omega arith))
+      rw at (keep_other (put r place t) (place + w) ts j o l h ∙ get_or-set_other r (place + 1) (place + w + w * j + o) _ 0 (λ e. omega arith))
 
   -- and that becomes the difference
   put_duration : (r : List ℕ) (place : ℕ) (ts : List Token) (j : ℕ) (d : Token) → j < length ts → place + w * length ts ≤ length r
@@ -80,7 +84,7 @@ module _ (f : ℕ → ℕ) (w : ℕ) (two : 2 ≤ w) where
   put_duration r place (t ∷ ts) (suc j) d l fits =
       let step : w * suc (length ts) ≡ w * length ts + w = mul-suc w (length ts) in
       let at : place + w * suc j + 1 ≡ place + w + w * j + 1 = omega (arith, mul-suc w j) in
-      rw at (put_duration _ (place + w) ts j d (omega arith) (rw (length-set r (place + 1) (f t.end.tick - f t.start.tick)) (omega arith)))
+      rw at (put_duration (put r place t) (place + w) ts j d (omega arith) (rw (length-set r (place + 1) (f t.end.tick - f t.start.tick)) (omega arith)))
 
 token-same : {x x' s s' e e' j j' : ℕ} → x ≡ x' → s ≡ s' → e ≡ e' → j ≡ j' → token x s e j ≡ token x' s' e' j'
 token-same h k l m = cc

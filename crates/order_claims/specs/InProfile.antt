@@ -3,7 +3,6 @@ use Rattle.std.specs.Prelude.{◌≡◌, ◌⊎◌, List, ℕ, ◌+◌, ◌*◌,
 use Rattle.clock.specs.Clock.{no_limit}
 use Rattle.layout.specs.Layout.{count, offset}
 use Rattle.book.specs.Rules.{Atom, atom_at}
-use Rattle.book.specs.Encode.{atoms}
 use Rattle.book.specs.Fault.{book_fault}
 
 -- ---- the profile, in plain numbers

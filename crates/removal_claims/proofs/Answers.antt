@@ -200,11 +200,16 @@ module _ (b d list : List ℕ) where
     taken_sound : Sound 1 b
     taken_sound = (book_none 1 b).0 (answer-0.0 q).0
 
+    -- the shorter book is in front
+    book_front : take (removal b d list).a (book_after b d list) ≡ removed_book b list
+    unfolding book_after in_front
+    book_front = rw (eq-eqb number 0 q, success q) (take-append_seam (removed_book b list) _)
+
     -- the book's new words are those of the shorter book, and "words past .. new end stay"
     pub book-words : (take (removal b d list).a (book_after b d list) ≡ removed_book b list)
         × (drop (removal b d list).a (book_after b d list) ≡ drop (removal b d list).a b)
     unfolding book_after in_front
-    book-words = rw (eq-eqb number 0 q, success q) (take-append_seam (removed_book b list) _, drop-append_seam (removed_book b list) _)
+    book-words = (book_front, rw (eq-eqb number 0 q, success q) (drop-append_seam (removed_book b list) _))
 
     -- and the desk list's are those of the kept rules
     pub desk-words : (take (removal b d list).b (desks_after b d list) ≡ kept list 0 d)
@@ -219,20 +224,20 @@ module _ (b d list : List ℕ) where
     pub written-right : ((book_fault 1 (take (removal b d list).a (book_after b d list))).number ≡ 0)
         × (list_right (take (removal b d list).a (book_after b d list)) (take (removal b d list).b (desks_after b d list)) ≡ true)
     written-right =
-        rw (book-words.0, desk-words.0)
+        rw (book_front, desk-words.0)
         (ap (λ (n : Numbers). n.number) (removed_good b taken_sound list), removed_desks b taken_sound list d ((desks-iff b d).1 (answer-0.0 q).1))
 
     -- "A plan passes the shorter book exactly if it passes 1 to 11 and 18 and meets each kept rule", said of the lent words
     pub written-accepted : (p : List ℕ)
         → ((judged (take (removal b d list).a (book_after b d list)) p).number ≡ 0)
         ↔ Solution 1 b p (kept list 0 (rules_of atoms b)) (Satisfies (SatisfiedIn (line_of p)) (line_of p))
-    written-accepted p = rw book-words.0 (removed_accepted b taken_sound list p)
+    written-accepted p = rw book_front (removed_accepted b taken_sound list p)
 
     -- and what it then counts
     pub written_count : (p : List ℕ) (n : ℕ)
         → (judged (take (removal b d list).a (book_after b d list)) p ≡ numbers 0 n 0)
         ↔ (Solution 1 b p (kept list 0 (rules_of atoms b)) (Satisfies (SatisfiedIn (line_of p)) (line_of p)) × Examined (line_of p) (kept list 0 (rules_of atoms b)) n)
-    written_count p n = rw book-words.0 (removed_count b taken_sound list p n)
+    written_count p n = rw book_front (removed_count b taken_sound list p n)
 
 -- two answers that the contract of `remove_rules` permits are equal; the lent words it says by equations
 pub remove-one : (b d list : List ℕ) (r s : Answer) → numbers_of r ≡ removal b d list → numbers_of s ≡ removal b d list → r ≡ s

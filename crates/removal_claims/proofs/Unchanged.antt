@@ -173,9 +173,13 @@ module _ (b : List ℕ) (sound : Sound 1 b) where
 
 -- ---- THE CLAIM: an empty list changes nothing, whatever is lent
 
+-- a sound book written anew with the rules that an empty list leaves is that book
+all_written : (b : List ℕ) → Sound 1 b → rebuilt b (kept [] 0 (rules_of atoms b)) ≡ b
+all_written b sound = ap (rebuilt b) (kept_all_of 0 (rules_of atoms b)) ∙ rebuilt-same b sound
+
 pub nothing_removed : (b : List ℕ) → Sound 1 b → removed_book b [] ≡ b
 unfolding removed_book
-nothing_removed b sound = ap (rebuilt b) (kept_all_of 0 (rules_of atoms b)) ∙ rebuilt-same b sound
+nothing_removed b sound = all_written b sound
 
 -- all of l in front of l
 front_same : (l : List ℕ) → in_front l l ≡ l
@@ -183,11 +187,11 @@ unfolding in_front
 front_same l = rw drop-length (append-nil l)
 
 pub nothing_listed : (b d : List ℕ) → (book_after b d [] ≡ b) × (desks_after b d [] ≡ d)
-unfolding book_after desks_after
+unfolding book_after desks_after removed_book
 nothing_listed b d = by (eqb (removal b d []).number 0) refl
   where
     by : (t : Bool) → eqb (removal b d []).number 0 ≡ t → (cond t (in_front (removed_book b []) b) b ≡ b) × (cond t (in_front (kept [] 0 d) d) d ≡ d)
     by true e =
         let sound = (book_none 1 b).0 ((answer-0 b d []).0 (eqb-true _ _ e)).0 in
-        (rw (nothing_removed b sound) (front_same b), rw (kept_all_of 0 d) (front_same d))
+        (rw (all_written b sound) (front_same b), rw (kept_all_of 0 d) (front_same d))
     by false e = (refl, refl)

@@ -4,7 +4,6 @@ use Rattle.answers.specs.Numbers.{numbers}
 use Rattle.answers.specs.declared.Numbers.{Numbers}
 use Rattle.clock.specs.Clock.{no_limit}
 use Rattle.book.proofs.Specimen.{book_e, sheet_e}
-use Rattle.plan.specs.Fault as plan
 use Rattle.verdict.specs.Judged.{judged}
 use Rattle.claims.specs.Specimens.{plan_p1}
 use Rattle.removal.specs.Removed.{removed_book}
