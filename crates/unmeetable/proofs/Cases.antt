@@ -27,14 +27,11 @@ use Rattle.earliest.specs.Times.{Times, time_of, AtomMet, no_name, no_atom, Toke
 use Rattle.earliest.proofs.Filling.{between}
 use Rattle.unmeetable.proofs.Answers.{yes-exactly, yes-shows, no-exactly, no-shows, earliest-one}
 use Rattle.unmeetable.proofs.Never.{never}
-use Rattle.unmeetable.specs.Cases.{job_only, hopeless}
+use Rattle.unmeetable.specs.Cases.{times_e, times_end, job_only, hopeless}
 
 -- ---- "yes"
 
--- a job of 5 ticks at once, with the decoder's stretch around it, and then the day may end
-abbrev times_e : Times
-times_e = record { start = λ k. 0; end = λ k. 5; plan_end = 5 }
-
+-- book E's job at once, and then the day may end
 suits_e : SuitsOf book_e 0 times_e
 unfolding run least owner in_bounds value_at variable_at name_at atom_at alternative_at rule_at variables_of time_of
 suits_e = record { trigger = λ n. record { lasts = refl; within = omega arith }; names = names; atoms = atoms }
@@ -84,10 +81,7 @@ told-E {before = before} t =
     let y = yes-shows t sound_e (omega arith) h in
     (h, y.shows ∙ ap (laid before) (earliest-one (rule_of book_e 0) (alternative_of book_e 0) y.times times_e y.earliest earliest_e ∙ shown_e))
 
--- 02, L8: from time point 0 to the end of the plan at least 1, without tokens: the plan's end alone is shown
-abbrev times_end : Times
-times_end = record { start = λ k. 0; end = λ k. 1; plan_end = 1 }
-
+-- the plan's end alone
 earliest_end : Earliest (variables_of end_book) (rule_of end_book 0) (alternative_of end_book 0) times_end
 unfolding run least owner in_bounds name_at atom_at alternative_at rule_at time_of shown shown_from
 earliest_end =

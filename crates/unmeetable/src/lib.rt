@@ -1,2 +1,2 @@
-// No code: what the answers of `earliest` mean, as theorems in specs/.
+// No code: what the answers of `earliest` mean, as theorems in proofs/.
 #![tactic(auto)]
