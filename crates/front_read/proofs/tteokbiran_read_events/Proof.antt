@@ -1,9 +1,0 @@
--- `front_read::tteokbiran_read_events` meets its contract: each number is the answer's, and the room is as it was left. Assumes nothing.
-use borrow.Author.Rules.{rules}
-use Rattle.front_read.proofs.tteokbiran_read_events.Statement.{statement}
-use Rattle.front_read.proofs.tteokbiran_read_events.Tie as tie
-
-pub tteokbiran-read-events-spec : {M : Type 1} → statement M
-tteokbiran-read-events-spec =
-    tie.close
-    (tie.spec (λ c κs. search rules) (λ c κs. search rules) (λ c. search rules) (λ c. (cc, (cc, (cc, (cc, cc))))))
