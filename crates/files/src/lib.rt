@@ -8,8 +8,8 @@ use std::fs::File;
 use std::io::{Read, Write};
 use std::{fs, io};
 
-// The bytes of a file, at the start of buf, and how many they are: none where it can't be opened. The four bytes beyond 65,536
-// show that a file is too long.
+// The bytes of a file, at the start of buf, and how many they are: none where it can't be opened, or where its name is no UTF-8.
+// The four bytes beyond 65,536 show that a file is too long.
 pub fn slurp(rt: &HostRuntime, path: &[u8], buf: &mut [u8; 65540]) -> usize
     ensures within { result ≤ length buf.new }
     ensures counted { result ≡ length (take result buf.new) }

@@ -1,2 +1,2 @@
-// No code: what books that speak only of order promise, as theorems in specs/.
+// No code: what books that speak only of order promise, as theorems in proofs/.
 #![tactic(auto)]

@@ -17,7 +17,7 @@ pub struct Opened {
 }
 
 // A reader over one timeline of the lent plan: the plan's words and a position. It leaves the work to the position.
-#[derive(Drop)]
+#[derive(Clone, Copy)]
 pub struct Reader<'a> {
     pub plan: &'a [u32],
     pub at: Position,
