@@ -1,12 +1,15 @@
 -- The relation from three-way orders. Once the orders of four pairs of ends are known, so are the twelve tests of which the thirteen
 -- conditions are made, and the first condition that holds is computed. Assumes nothing.
-use mathlib.Core.Path.{◌≡◌, refl, ◌∙◌}
-use mathlib.Core.Bool.{Bool, true, false, ◌&&◌, ◌||◌}
+use mathlib.Core.Path.{◌≡◌, refl, ap, ◌∙◌}
+use mathlib.Core.Bool.{Bool, true, false, ◌&&◌, ◌||◌, cond}
 use mathlib.Core.List.{List, [], ◌∷◌}
 use Prim.Native.Nat.{ℕ, ◌+◌, ◌-◌, ◌*◌, ◌<◌, ◌≤◌}
 use native.Mathlib.Omega.{arith}
 use lib.Dec.{ltb, eqb}
 use borrow.Author.Tests.{ltb-true, ltb-false, eqb-true, eqb-false, lt-ltb, le-ltb, ne_eqb}
+use Rattle.std.specs.declared.cmp.Ordering.{Ordering}
+use Rattle.std.specs.declared.cmp.Ordering.TheVariants.{Less, Equal, Greater}
+use Rattle.std.specs.Ordering.{nat_cmp}
 use Rattle.words.specs.Least.{first}
 use Rattle.allen.specs.Relation.{relation_of}
 use Rattle.allen.specs.Order.{order_of, Across}
@@ -25,6 +28,21 @@ three a b = by (ltb a b) (eqb a b) refl refl
     by true q h k = rw (h, ne_eqb a b (omega (arith, ltb-true a b h)), le-ltb b a (omega (arith, ltb-true a b h))) less
     by false true h k = rw (h, k, le-ltb b a (omega (arith, eqb-true a b k))) same
     by false false h k = rw (h, k, lt-ltb b a (omega (arith, ltb-false a b h, eqb-false a b k))) more
+
+-- the number of what a comparison says
+abbrev rank : Ordering → ℕ
+rank Less = 0
+rank Equal = 1
+rank Greater = 2
+
+pub order-is : (a b : ℕ) (o : Ordering) → o ≡ nat_cmp a b → rank o ≡ order_of a b
+unfolding order_of
+order-is a b o h = ap rank h ∙ by (ltb a b) (eqb a b)
+  where
+    by : (l q : Bool) → rank (cond l Less (cond q Equal Greater)) ≡ cond l 0 (cond q 1 2)
+    by true q = refl
+    by false true = refl
+    by false false = refl
 
 abbrev it : Bool → Bool
 it holds = holds

@@ -2,13 +2,13 @@
 #![tactic(auto)]
 
 ghost use Rattle.std.specs.Prelude.{◌≡◌};
-ghost use Rattle.answers.specs.Numbers.{numbers, numbers_at, numbers_of};
+ghost use Rattle.answers.specs.Numbers.{numbers, numbers_at, numbers_refused, numbers_of};
 
-// What is wrong, and where; `Done` is the one way to be right, with the numbers that its function promises. No two cases share their
-// numbers, so a contract on the numbers settles the case.
-#[derive(Clone, Copy)]
-pub enum Answer {
-    Done { a: u32, b: u32 },
+use std::fmt;
+
+// What is wrong, and where. No two cases share their numbers, so a contract on the numbers settles the case.
+#[derive(Clone, Copy, Debug, PartialEq, Eq)]
+pub enum Refusal {
     BookLength,
     BookHeader { word: u32 },
     BookEnd,
@@ -35,8 +35,18 @@ pub enum Answer {
     TableTooShort,
 }
 
+// The one way to be right, with the numbers that its function promises.
+#[derive(Clone, Copy, Debug, PartialEq, Eq)]
+pub struct Done {
+    pub a: u32,
+    pub b: u32,
+}
+
+// What a function answers: what it has done, or the first thing that is wrong.
+pub type Answer = Result<Done, Refusal>;
+
 // The four numbers that an answer is shown as.
-#[derive(Clone, Copy)]
+#[derive(Clone, Copy, Debug, PartialEq, Eq)]
 pub struct Numbers {
     pub number: u32,
     pub a: u32,
@@ -58,39 +68,78 @@ fn row(number: u32, a: u32, b: u32) -> Numbers
     row_at(number, a, b, 0)
 }
 
+// The numbers of a refusal.
+fn numbers_refused(r: Refusal) -> Numbers
+    ensures { result ≡ numbers_refused r }
+{
+    match r {
+        Refusal::BookLength => row(1, 0, 0),
+        Refusal::BookHeader { word } => row(2, word, 0),
+        Refusal::BookEnd => row(3, 0, 0),
+        Refusal::BookRecord {
+            table,
+            record,
+            word,
+        } => row_at(4, table, record, word),
+        Refusal::PlanLength => row(5, 0, 0),
+        Refusal::PlanHeader { word } => row(6, word, 0),
+        Refusal::PlanEnd => row(7, 0, 0),
+        Refusal::ValueUnknown { timeline, token } => row(8, timeline, token),
+        Refusal::DurationOutside { timeline, token } => row(9, timeline, token),
+        Refusal::NotSuccessor { timeline, token } => row(10, timeline, token),
+        Refusal::PastLastTick { timeline, token } => row(11, timeline, token),
+        Refusal::RuleNotMet { rule, token } => row(12, rule, token),
+        Refusal::TooManyAlternatives { rule } => row(13, rule, 0),
+        Refusal::TooLong { table } => row(14, table, 0),
+        Refusal::RoomTooShort { words } => row(15, words, 0),
+        Refusal::NoSuchTimeline => row(17, 0, 0),
+        Refusal::EndsApart { timeline } => row(18, timeline, 0),
+        Refusal::NoSuchDesk => row(19, 0, 0),
+        Refusal::NotAnEventList => row(20, 0, 0),
+        Refusal::EventRoomTooShort { words } => row(21, words, 0),
+        Refusal::NoSuchRules => row(24, 0, 0),
+        Refusal::NotOrderOnly => row(26, 0, 0),
+        Refusal::NoSuchAlternative => row(27, 0, 0),
+        Refusal::TableTooShort => row(25, 0, 0),
+    }
+}
+
 // The numbers of an answer.
 pub fn numbers_of(r: Answer) -> Numbers
     ensures { result ≡ numbers_of r }
 {
     match r {
-        Answer::Done { a, b } => row(0, a, b),
-        Answer::BookLength => row(1, 0, 0),
-        Answer::BookHeader { word } => row(2, word, 0),
-        Answer::BookEnd => row(3, 0, 0),
-        Answer::BookRecord {
-            table,
-            record,
-            word,
-        } => row_at(4, table, record, word),
-        Answer::PlanLength => row(5, 0, 0),
-        Answer::PlanHeader { word } => row(6, word, 0),
-        Answer::PlanEnd => row(7, 0, 0),
-        Answer::ValueUnknown { timeline, token } => row(8, timeline, token),
-        Answer::DurationOutside { timeline, token } => row(9, timeline, token),
-        Answer::NotSuccessor { timeline, token } => row(10, timeline, token),
-        Answer::PastLastTick { timeline, token } => row(11, timeline, token),
-        Answer::RuleNotMet { rule, token } => row(12, rule, token),
-        Answer::TooManyAlternatives { rule } => row(13, rule, 0),
-        Answer::TooLong { table } => row(14, table, 0),
-        Answer::RoomTooShort { words } => row(15, words, 0),
-        Answer::NoSuchTimeline => row(17, 0, 0),
-        Answer::EndsApart { timeline } => row(18, timeline, 0),
-        Answer::NoSuchDesk => row(19, 0, 0),
-        Answer::NotAnEventList => row(20, 0, 0),
-        Answer::EventRoomTooShort { words } => row(21, words, 0),
-        Answer::NoSuchRules => row(24, 0, 0),
-        Answer::NotOrderOnly => row(26, 0, 0),
-        Answer::NoSuchAlternative => row(27, 0, 0),
-        Answer::TableTooShort => row(25, 0, 0),
+        Ok(done) => row(0, done.a, done.b),
+        Err(refusal) => numbers_refused(refusal),
+    }
+}
+
+impl From<Answer> for Numbers {
+    ghost from_gives = { λ r x. x ≡ numbers_of r };
+
+    fn from(r: Answer) -> Numbers {
+        numbers_of(r)
+    }
+}
+
+// The line that a program prints: the numbers with single spaces.
+impl fmt::Display for Numbers {
+    fn fmt<W: fmt::Write>(&self, f: &mut fmt::Formatter<W>) -> fmt::Result {
+        write!(f, "{} {} {} {}", self.number, self.a, self.b, self.c)
+    }
+}
+
+impl Numbers {
+    // Tells the numbers one by one, as C takes them.
+    pub fn tell(self, number: &mut u32, a: &mut u32, b: &mut u32, c: &mut u32)
+        ensures number_after { number.new ≡ self.number }
+        ensures a_after { a.new ≡ self.a }
+        ensures b_after { b.new ≡ self.b }
+        ensures c_after { c.new ≡ self.c }
+    {
+        *number = self.number;
+        *a = self.a;
+        *b = self.b;
+        *c = self.c;
     }
 }

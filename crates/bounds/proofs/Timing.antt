@@ -9,6 +9,9 @@ use native.Mathlib.Nat.{eq-or-lt_of_le}
 use native.Mathlib.Omega.{arith}
 use lib.ListN.{length, get_or, set}
 use lib.Seq.{get_or-set_same, get_or-set_other}
+use Rattle.std.specs.Bool.{MatchBool}
+use Rattle.std.specs.List.{range_with_len, AllWithin, HoldsAt}
+use Rattle.std.proofs.lemmas.List.FromFn.{get_or-range_with_len}
 use Rattle.bounds.specs.Bounds.{origin, entry, Holds, Meets, times, Earliest, reach, Within, Floored}
 use Rattle.bounds.specs.Steps.{Joined, Raised, far, Closed, Bent, Tested, Fit, Later, Reached, First}
 use Rattle.bounds.proofs.Raising.{Through}
@@ -145,6 +148,25 @@ floored_kept a h j l = omega (arith, a.grown (0 * 12 + j), h j l)
 
 pub fit : {w v : List ℕ} {r : Bool} → Closed w v → Floored w → Tested v r → r ≡ true → Fit v
 fit c h t e = record { joined = c.joined; near = c.near; floored = floored_kept c.raised h; flat = t.flat e }
+
+in_range : (k : ℕ) → k < 12 → get_or (range_with_len 0 12) k 0 ≡ k
+in_range k l = get_or-range_with_len 0 12 k 0 l ∙ omega arith
+
+-- none of the numbers below 12 is a time that would have to be later than itself, or one is
+pub tested : (w : List ℕ) (r : Bool)
+    → MatchBool
+    r
+    (AllWithin (λ k. entry w k k ≤ origin) (range_with_len 0 12) 0 12)
+    ((k : ℕ) × (k < 12) × HoldsAt (λ k. origin < entry w k k) (range_with_len 0 12) k)
+    → Tested w r
+tested w true h = record {
+  flat = λ _ k l. rw (in_range k l) at (h k 0 (omega arith) l);
+  bent = λ e. absurd (false≢true (sym e));
+}
+tested w false h = record {
+  flat = λ e. absurd (false≢true e);
+  bent = λ _. record { at = h.0; below = h.1; over = rw (in_range h.0 h.1) at (h.2 0) };
+}
 
 -- ---- the whole
 

@@ -13,21 +13,24 @@ ghost use Rattle.bounds.specs.Steps.{wide, late, Join, Ready, RaisedOne, RaisedR
 // The number that stands for a bound of 0.
 pub const ORIGIN: u64 = 17592186044416;
 
+// The time b, or the later one that the bound e from the time a asks for.
+fn later(b: u64, a: u64, e: u64) -> u64
+    requires { (b ≤ late) × (a ≤ late) × (e ≤ wide) }
+    ensures { Later b a e result }
+{
+    if e == 0 {
+        b
+    } else {
+        b.max((a + e).saturating_sub(ORIGIN))
+    }
+}
+
 // The bound e, raised to what the bounds a and b imply together.
 fn join(e: u64, a: u64, b: u64) -> u64
     requires { (e ≤ wide) × (a ≤ wide) × (b ≤ wide) }
     ensures { Join e a b result }
 {
-    if a == 0 {
-        return e;
-    }
-    if b == 0 {
-        return e;
-    }
-    if a + b <= e + ORIGIN {
-        return e;
-    }
-    a + b - ORIGIN
+    if a == 0 { e } else { later(e, a, b) }
 }
 
 // Raises the bound from i to j through k.
@@ -47,10 +50,8 @@ fn raise_row(w: &mut [u64; 144], k: usize, i: usize)
     requires { Ready k w.old × (i < k) }
     ensures { RaisedRow k i k w.old w.new }
 {
-    let mut j = 0;
-    while j < k {
+    for j in 0..k {
         raise(w, k, i, j);
-        j += 1;
     }
 }
 
@@ -59,10 +60,8 @@ fn raise_rows(w: &mut [u64; 144], k: usize)
     requires { Ready k w.old }
     ensures { RaisedRows k k w.old w.new }
 {
-    let mut i = 0;
-    while i < k {
+    for i in 0..k {
         raise_row(w, k, i);
-        i += 1;
     }
 }
 
@@ -71,9 +70,7 @@ fn close(w: &mut [u64; 144])
     requires { (length w.old ≡ 144) × Within (reach 12) w.old }
     ensures { Closed w.old w.new }
 {
-    let mut k = 12;
-    while 1 < k {
-        k -= 1;
+    for k in (1..12).rev() {
         raise_rows(w, k);
     }
 }
@@ -82,28 +79,7 @@ fn close(w: &mut [u64; 144])
 fn possible(w: &[u64; 144]) -> bool
     ensures { Tested w.now result }
 {
-    let mut k = 0;
-    while k < 12 {
-        if w[k * 12 + k] > ORIGIN {
-            return false;
-        }
-        k += 1;
-    }
-    true
-}
-
-// The time b, or the later one that the bound e from the time a asks for.
-fn later(b: u64, a: u64, e: u64) -> u64
-    requires { (b ≤ late) × (a ≤ late) × (e ≤ wide) }
-    ensures { Later b a e result }
-{
-    if e == 0 {
-        return b;
-    }
-    if a + e <= b + ORIGIN {
-        return b;
-    }
-    a + e - ORIGIN
+    (0..12).all(|k| w[k * 12 + k] <= ORIGIN)
 }
 
 // The least that the bounds from the times before it allow for time k.
@@ -112,11 +88,8 @@ fn least_time(w: &[u64; 144], x: &[u64; 12], k: usize) -> u64
     ensures { Reached w.now k k (times x.now) result }
 {
     let mut best = w[k] - ORIGIN;
-    let mut i = 1;
-    while i < k {
-        let e = w[i * 12 + k];
-        best = later(best, x[i], e);
-        i += 1;
+    for i in 1..k {
+        best = later(best, x[i], w[i * 12 + k]);
     }
     best
 }
@@ -127,11 +100,8 @@ fn put_times(w: &[u64; 144], x: &mut [u64; 12])
     ensures { First w.now 12 (times x.new) }
 {
     x[0] = 0;
-    let mut k = 1;
-    while k < 12 {
-        let t = least_time(w, x, k);
-        x[k] = t;
-        k += 1;
+    for k in 1..12 {
+        x[k] = least_time(w, x, k);
     }
 }
 

@@ -11,16 +11,18 @@ use lib.Dec.{eqb}
 use lib.ListN.{length, get_or, set, length-set}
 use borrow.Author.Tests.{ne_eqb}
 use lib.Seq.{get_or-set_same, get_or-set_other, set_out}
-use Rattle.words.specs.Words.{word}
+use Rattle.words.specs.Words.{word, in_set}
 use Rattle.words.specs.Lists.{any, all}
 use Rattle.words.specs.Runs.{run}
+use Rattle.words.proofs.Laws.{first_word}
 use Rattle.clock.specs.declared.Time.{Time}
 use Rattle.clock.specs.Clock.{at, no_limit, in_bounds}
 use Rattle.layout.specs.Layout.{fifth_width}
-use Rattle.book.specs.Rules.{atom_at}
+use Rattle.book.specs.Rules.{atom_at, constraint_at}
 use Rattle.lines.specs.declared.Token.{Token}
+use Rattle.allen.specs.Relation.{relation_of}
 use Rattle.choice.specs.declared.Alternative.{Alternative}
-use Rattle.choice.specs.Met.{Choice, end_place, time_place, job_place, put, token_time, token_job, end_time, time_of, bounds_hold, atom_holds}
+use Rattle.choice.specs.Met.{Choice, end_place, time_place, job_place, put, token_time, token_job, end_time, time_of, bounds_hold, atom_holds, constraint_holds}
 use Rattle.choice.specs.Exists.{chosen}
 use Rattle.choice.specs.Asked.{ask_holds, all_hold, ask_passes, hold_so_far}
 
@@ -53,21 +55,28 @@ scaled w x h k =
 -- ---- what an alternative asks
 
 -- six words of an atom and the times of its terms, as they were read
-pub atom_is : (b : List ℕ) (c : Choice) (k w0 w1 w2 w3 w4 w5 : ℕ) (left right : Time) (r : Bool) → w0 ≡ word b k → w1 ≡ word b (k + 1) → left ≡ at (time_of c w0 w1)
+pub atom_is : (b : List ℕ) (c : Choice) (k w0 w1 w2 w3 w4 w5 : ℕ) (left right : Time) (r : Bool) → w0 ≡ word b (k + 0) → w1 ≡ word b (k + 1) → left ≡ at (time_of c w0 w1)
     → w2 ≡ word b (k + 2) → w3 ≡ word b (k + 3) → right ≡ at (time_of c w2 w3) → w4 ≡ word b (k + 4) → w5 ≡ word b (k + 5)
     → r ≡ in_bounds no_limit left.tick right.tick w4 w5 → r ≡ bounds_hold c (atom_at b k)
 unfolding bounds_hold atom_at
-atom_is b c k w0 w1 w2 w3 w4 w5 left right r h0 h1 l h2 h3 q h4 h5 h = cc
+atom_is b c k w0 w1 w2 w3 w4 w5 left right r h0 h1 l h2 h3 q h4 h5 h = let first = h0 ∙ first_word b k in cc
 
 -- an atom of jobs, or another
-pub atom_jobs : (b : List ℕ) (c : Choice) (k x y l r : ℕ) → word b k ≡ 4 → x ≡ word b (k + 1) → y ≡ word b (k + 3) → l ≡ token_job c x → r ≡ token_job c y
+pub atom_jobs : (b : List ℕ) (c : Choice) (k w x y l r : ℕ) → w ≡ word b (k + 0) → w ≡ 4 → x ≡ word b (k + 1) → y ≡ word b (k + 3) → l ≡ token_job c x → r ≡ token_job c y
     → eqb l r ≡ atom_holds c (atom_at b k)
 unfolding atom_holds atom_at
-atom_jobs b c k x y l r h hx hy hl hr = rw (h, hl, hr, hx, hy)
+atom_jobs b c k w x y l r hw four hx hy hl hr = rw (sym (hw ∙ first_word b k) ∙ four, hl, hr, hx, hy)
 
-pub atom_bounds : (b : List ℕ) (c : Choice) (k : ℕ) (r : Bool) → (word b k ≡ 4 → ⊥) → r ≡ bounds_hold c (atom_at b k) → r ≡ atom_holds c (atom_at b k)
+pub atom_bounds : (b : List ℕ) (c : Choice) (k w : ℕ) (r : Bool) → w ≡ word b (k + 0) → (w ≡ 4 → ⊥) → r ≡ bounds_hold c (atom_at b k) → r ≡ atom_holds c (atom_at b k)
 unfolding atom_holds atom_at
-atom_bounds b c k r h q = rw (ne_eqb (word b k) 4 h) q
+atom_bounds b c k w r hw ne q = rw (ne_eqb (word b k) 4 (λ f. ne (hw ∙ first_word b k ∙ f))) q
+
+-- three words of a constraint and the times of its tokens, as they were read
+pub constraint_is : (b : List ℕ) (c : Choice) (k x y q s e s2 e2 n : ℕ) (r : Bool) → x ≡ word b (k + 0) → y ≡ word b (k + 1)
+    → s ≡ token_time c 0 x → e ≡ token_time c 1 x → s2 ≡ token_time c 0 y → e2 ≡ token_time c 1 y → n ≡ relation_of s e s2 e2
+    → q ≡ word b (k + 2) → r ≡ in_set q n → r ≡ constraint_holds c (constraint_at b k)
+unfolding constraint_holds constraint_at
+constraint_is b c k x y q s e s2 e2 n r hx hy hs he hs2 he2 hn hq h = let first = hx ∙ first_word b k in cc
 
 module _ (e : ℕ) (b : List ℕ) (c : Choice) where
   pub all_none : (n at : ℕ) → n ≡ 0 → all_hold e b c n at ≡ true
@@ -87,6 +96,14 @@ module _ (b : List ℕ) (a : Alternative) (c : Choice) (j : ℕ) where
       → hold_so_far b a c j n at ≡ (r && hold_so_far b a c j (n - 1) (at + w))
   unfolding hold_so_far
   so_far_step n at w r h q f = rw q (run-all-step (ask_passes b a c j) (λ k. k) (fifth_width a.edition) n at r h f)
+
+  -- from ask i on
+  pub so_far_next : (n at w i : ℕ) (r : Bool) → i < n → w ≡ fifth_width a.edition → r ≡ ask_passes b a c j (at + i * w)
+      → hold_so_far b a c j (n - i) (at + i * w) ≡ (r && hold_so_far b a c j (n - (i + 1)) (at + (i + 1) * w))
+  so_far_next n at w i r h q f =
+      let left : (n - i) - 1 ≡ n - (i + 1) = omega arith in
+      let place : at + i * w + w ≡ at + (i + 1) * w = omega arith in
+      rw (← left, ← place) (so_far_step (n - i) (at + i * w) w r (λ z. omega arith) q f)
 
 -- ---- the times of a choice
 

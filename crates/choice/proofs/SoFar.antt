@@ -4,6 +4,7 @@ use mathlib.Core.Path.{◌≡◌, refl, sym, ap, ◌∙◌}
 use mathlib.Core.Bool.{Bool, true, false, ◌&&◌, ◌||◌, not, cond, false≢true}
 use mathlib.Core.Logic.{inl, inr, ⊎_elim}
 use mathlib.Core.List.{List}
+use Rattle.std.specs.Prelude.{Option, Some, None}
 use Prim.Native.Nat.{ℕ, zero, suc, ◌+◌, ◌-◌, ◌*◌, ◌≤◌, ◌<◌}
 use native.Mathlib.Omega.{arith}
 use lib.Dec.{eqb, leb, ltb}
@@ -12,6 +13,7 @@ use borrow.Author.Tests.{ltb-true, ltb-false, leb-true, lt-ltb, le-ltb, le-leb, 
 use Rattle.words.specs.Words.{word}
 use Rattle.words.specs.Lists.{all}
 use Rattle.words.specs.Runs.{run}
+use Rattle.words.proofs.Laws.{first_word}
 use Rattle.layout.specs.Layout.{fifth_width}
 use Rattle.book.specs.Rules.{name_at, atom_at, constraint_at}
 use Rattle.lines.specs.Lines.{line_of}
@@ -28,23 +30,23 @@ both false b h = absurd (false≢true h)
 
 -- ---- one ask, as the code tests it
 
-pub placed_terms : (b : List ℕ) (at j x y u v : ℕ) (f g : Bool) → x ≡ word b at → u ≡ word b (at + 1) → f ≡ term_placed x u j → y ≡ word b (at + 2)
+pub placed_terms : (b : List ℕ) (at j x y u v : ℕ) (f g : Bool) → x ≡ word b (at + 0) → u ≡ word b (at + 1) → f ≡ term_placed x u j → y ≡ word b (at + 2)
     → v ≡ word b (at + 3) → g ≡ term_placed y v j → (f && g) ≡ terms_placed b at j
 unfolding terms_placed
-placed_terms b at j x y u v f g hx hu hf hy hv hg = rw (hf, hg, hx, hu, hy, hv)
+placed_terms b at j x y u v f g hx hu hf hy hv hg = rw (hf, hg, hx, first_word b at, hu, hy, hv)
 
 module _ (e : ℕ) (b : List ℕ) (at j : ℕ) (r : Bool) where
-  pub placed_sheet : (x y : ℕ) → e ≡ 2 → x ≡ word b at → y ≡ word b (at + 1) → r ≡ (leb x j && leb y j) → r ≡ ask_placed e b at j
+  pub placed_sheet : (x y : ℕ) → e ≡ 2 → x ≡ word b (at + 0) → y ≡ word b (at + 1) → r ≡ (leb x j && leb y j) → r ≡ ask_placed e b at j
   unfolding ask_placed
-  placed_sheet x y h hx hy q = rw (h, q, hx, hy)
+  placed_sheet x y h hx hy q = rw (h, q, hx, first_word b at, hy)
 
-  pub placed_jobs : (w x y : ℕ) → (e ≡ 2 → ⊥) → w ≡ word b at → w ≡ 4 → x ≡ word b (at + 1) → y ≡ word b (at + 3) → r ≡ (leb x j && leb y j) → r ≡ ask_placed e b at j
+  pub placed_jobs : (w x y : ℕ) → (e ≡ 2 → ⊥) → w ≡ word b (at + 0) → w ≡ 4 → x ≡ word b (at + 1) → y ≡ word b (at + 3) → r ≡ (leb x j && leb y j) → r ≡ ask_placed e b at j
   unfolding ask_placed
-  placed_jobs w x y h hw four hx hy q = rw (ne_eqb e 2 h, ← hw, four, q, hx, hy)
+  placed_jobs w x y h hw four hx hy q = rw (ne_eqb e 2 h, ← (hw ∙ first_word b at), four, q, hx, hy)
 
-  pub placed_book : (w : ℕ) → (e ≡ 2 → ⊥) → w ≡ word b at → (w ≡ 4 → ⊥) → r ≡ terms_placed b at j → r ≡ ask_placed e b at j
+  pub placed_book : (w : ℕ) → (e ≡ 2 → ⊥) → w ≡ word b (at + 0) → (w ≡ 4 → ⊥) → r ≡ terms_placed b at j → r ≡ ask_placed e b at j
   unfolding ask_placed
-  placed_book w h hw ne q = rw (ne_eqb e 2 h, ← hw, ne_eqb w 4 ne) q
+  placed_book w h hw ne q = rw (ne_eqb e 2 h, ← (hw ∙ first_word b at), ne_eqb w 4 ne) q
 
 module _ (b : List ℕ) (a : Alternative) (c : Choice) (j at : ℕ) (r : Bool) where
   pub passes-last : a.names ≤ j → r ≡ ask_holds a.edition b c at → r ≡ ask_passes b a c j at
@@ -171,8 +173,14 @@ module _ (b : List ℕ) (a : Alternative) (k : ℕ) where
   rests_next left at ne some f =
       record { on = λ d h. let q = (first_passes d left at some f h).1 in rw (ne_eqb a.edition 2 ne) at q }
 
+  pub rests_after : (n at i : ℕ) → (a.edition ≡ 2 → ⊥) → i < n → Rests b a k (n - i) (at + i * 6) → Rests b a k (n - (i + 1)) (at + (i + 1) * 6)
+  rests_after n at i ne l f =
+      let left : (n - i) - 1 ≡ n - (i + 1) = omega arith in
+      let place : at + i * 6 + 6 ≡ at + (i + 1) * 6 = omega arith in
+      rw (← left, ← place) (rests_next (n - i) (at + i * 6) ne (λ z. omega arith) f)
+
   -- an atom of jobs that ties the name
-  module _ (c : Choice) (tied : Bool) (job : ℕ) (ne : a.edition ≡ 2 → ⊥) (few : k ≤ 4) where
+  module _ (c : Choice) (tied : Option ℕ) (ne : a.edition ≡ 2 → ⊥) (few : k ≤ 4) where
     tie_passes : (d : Choice) (at : ℕ) → word b at ≡ 4 → word b (at + 1) ≤ k → word b (at + 3) ≤ k → ask_passes b a d k at ≡ true
         → token_job d (word b (at + 1)) ≡ token_job d (word b (at + 3))
     unfolding ask_passes ask_placed ask_holds atom_holds atom_at
@@ -185,41 +193,41 @@ module _ (b : List ℕ) (a : Alternative) (k : ℕ) where
         last true t h = h
         last false t h = h
 
-    pub tie_here : (left at : ℕ) → (left ≡ 0 → ⊥) → Rests b a k left at → TiedAt b c k at tied job → Tied b a c k tied job
-    tie_here left at some f t = record { only = λ yea long start end other h. here yea long start end other (first_passes (put c k start end other) left at some f h).0 }
+    pub tie_here : (left at : ℕ) → (left ≡ 0 → ⊥) → Rests b a k left at → TiedAt b c k at tied → Tied b a c k tied
+    tie_here left at some f t = record { only = λ job yea long start end other h. here job yea long start end other (first_passes (put c k start end other) left at some f h).0 }
       where
-        here : tied ≡ true → length c ≡ choice_size → (start end other : ℕ) → ask_passes b a (put c k start end other) k at ≡ true → other ≡ job
-        here yea long start end other h =
+        here : (job : ℕ) → tied ≡ Some job → length c ≡ choice_size → (start end other : ℕ) → ask_passes b a (put c k start end other) k at ≡ true → other ≡ job
+        here job yea long start end other h =
             ⊎_elim
             (λ q.
-            let p = tie_passes (put c k start end other) at (t.jobs yea) (omega (arith, q.0)) (omega (arith, q.1)) h in
+            let p = tie_passes (put c k start end other) at (t.jobs job yea) (omega (arith, q.0)) (omega (arith, q.1)) h in
             let own = put_third c k start end other (omega (arith, long)) in
             let old = put-job c k start end other (word b (at + 3)) (λ e. omega (arith, q.1)) in
             sym own ∙ ap (token_job (put c k start end other)) (sym q.0) ∙ p ∙ old ∙ sym q.2)
             (λ q.
-            let p = tie_passes (put c k start end other) at (t.jobs yea) (omega (arith, q.1)) (omega (arith, q.0)) h in
+            let p = tie_passes (put c k start end other) at (t.jobs job yea) (omega (arith, q.1)) (omega (arith, q.0)) h in
             let own = put_third c k start end other (omega (arith, long)) in
             let old = put-job c k start end other (word b (at + 1)) (λ e. omega (arith, q.1)) in
             sym own ∙ ap (token_job (put c k start end other)) (sym q.0) ∙ sym p ∙ old ∙ sym q.2)
-            (t.other yea)
+            (t.other job yea)
 
-  pub tie_none : (c : Choice) (job : ℕ) → Tied b a c k false job
-  tie_none c job = record { only = λ h. absurd (false≢true h) }
+  pub tie_none : (c : Choice) → Tied b a c k None
+  tie_none c = record { only = λ job h long start end other k. cc }
 
 -- the words of an atom of jobs, as they were read
-module _ (b : List ℕ) (c : Choice) (k at w x y job : ℕ) (hw : w ≡ word b at) (four : w ≡ 4) (hx : x ≡ word b (at + 1)) (hy : y ≡ word b (at + 3)) where
-  pub tie_left : (eqb x k && ltb y k) ≡ true → job ≡ token_job c y → TiedAt b c k at true job
+module _ (b : List ℕ) (c : Choice) (k at w x y job : ℕ) (hw : w ≡ word b (at + 0)) (four : w ≡ 4) (hx : x ≡ word b (at + 1)) (hy : y ≡ word b (at + 3)) where
+  pub tie_left : (eqb x k && ltb y k) ≡ true → job ≡ token_job c y → TiedAt b c k at (Some job)
   tie_left h q =
       let p = both (eqb x k) _ h in
-      record { jobs = λ _. sym hw ∙ four; other = λ _. rw (← hx, ← hy) (inl (eqb-true x k p.0, ltb-true y k p.1, q)) }
+      record { jobs = λ _ _. sym (hw ∙ first_word b at) ∙ four; other = λ asked e. let same : asked ≡ job = cc in rw (← hx, ← hy) (inl (eqb-true x k p.0, ltb-true y k p.1, same ∙ q)) }
 
-  pub tie_right : (eqb y k && ltb x k) ≡ true → job ≡ token_job c x → TiedAt b c k at true job
+  pub tie_right : (eqb y k && ltb x k) ≡ true → job ≡ token_job c x → TiedAt b c k at (Some job)
   tie_right h q =
       let p = both (eqb y k) _ h in
-      record { jobs = λ _. sym hw ∙ four; other = λ _. rw (← hx, ← hy) (inr (eqb-true y k p.0, ltb-true x k p.1, q)) }
+      record { jobs = λ _ _. sym (hw ∙ first_word b at) ∙ four; other = λ asked e. let same : asked ≡ job = cc in rw (← hx, ← hy) (inr (eqb-true y k p.0, ltb-true x k p.1, same ∙ q)) }
 
-pub untied : (b : List ℕ) (c : Choice) (k at job : ℕ) → TiedAt b c k at false job
-untied b c k at job = record { jobs = λ h. absurd (false≢true h); other = λ h. absurd (false≢true h) }
+pub untied : (b : List ℕ) (c : Choice) (k at : ℕ) → TiedAt b c k at None
+untied b c k at = record { jobs = λ job h. cc; other = λ job h. cc }
 
 -- a book's names, of which there are four
 pub tie_asked : (e k : ℕ) → (eqb e 2 || ltb 4 k) ≡ false → (e ≡ 2 → ⊥) × (k ≤ 4)

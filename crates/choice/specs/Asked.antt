@@ -1,6 +1,6 @@
 -- What the contracts of the search cite: the decoded meaning under short names, with the code's places for arguments. What an alternative
 -- asks is named by its place in table 5, so that a book and a sheet share all of it but `ask_holds`. Assumes nothing.
-use Rattle.std.specs.Prelude.{◌≡◌, Bool, true, false, ◌&&◌, ◌||◌, not, cond, ◌⊎◌, List, [], ℕ, ◌+◌, ◌*◌, ◌<◌, eqb, leb, ltb, length}
+use Rattle.std.specs.Prelude.{Option, Some, None, ◌≡◌, Bool, true, ◌&&◌, ◌||◌, not, cond, ◌⊎◌, List, [], ℕ, ◌+◌, ◌*◌, ◌<◌, eqb, leb, ltb, length}
 use Rattle.words.specs.Lists.{any, all}
 use Rattle.words.specs.Runs.{run}
 use Rattle.words.specs.Words.{word}
@@ -68,15 +68,15 @@ hold_so_far b a c j m at = all (ask_passes b a c j) (run ((places a.edition).rea
 -- ---- which job is asked for
 
 -- the ask at a place is an atom of jobs that ties name number k to the trigger or to a name before it, which has this job
-pub record TiedAt (b : List ℕ) (c : Choice) (k at : ℕ) (tied : Bool) (job : ℕ) : Type 0 where
-  pub jobs : tied ≡ true → word b at ≡ 4
-  pub other : tied ≡ true
+pub record TiedAt (b : List ℕ) (c : Choice) (k at : ℕ) (tied : Option ℕ) : Type 0 where
+  pub jobs : (job : ℕ) → tied ≡ Some job → word b at ≡ 4
+  pub other : (job : ℕ) → tied ≡ Some job
       → ((word b (at + 1) ≡ k) × (word b (at + 3) < k) × (job ≡ token_job c (word b (at + 3))))
       ⊎ ((word b (at + 3) ≡ k) × (word b (at + 1) < k) × (job ≡ token_job c (word b (at + 1))))
 
 -- name number k is tied to a job by what an alternative asks: a token of another job for it fails as soon as it is put
-pub record Tied (b : List ℕ) (a : Alternative) (c : Choice) (k : ℕ) (tied : Bool) (job : ℕ) : Type 0 where
-  pub only : tied ≡ true → length c ≡ choice_size
+pub record Tied (b : List ℕ) (a : Alternative) (c : Choice) (k : ℕ) (tied : Option ℕ) : Type 0 where
+  pub only : (job : ℕ) → tied ≡ Some job → length c ≡ choice_size
       → (start end other : ℕ) → hold_so_far b a (put c k start end other) k a.asks a.ask ≡ true → other ≡ job
 
 -- ---- what the functions that read a record give
@@ -86,8 +86,7 @@ abbrev pub tokens_of : List ℕ → List ℕ → ℕ → Tokens
 tokens_of b p name =
     record {
       value = word b (name + 1);
-      tied = false;
-      job = 0;
+      job = None;
       width = token_width p;
       count = line_count p (word b name);
       place = line_place p (word b name);

@@ -1,17 +1,18 @@
 // A choice: the plan's end, and start, end and job of the trigger token and of the tokens chosen for an alternative's names; the times of terms
-// in it, and whether what the alternative asks holds.
+// in it, and whether what the alternative asks holds. The kind of a term and the edition stay numbers: they are words of a book that may be
+// anything, and `time_of` and `ask_holds` are said of every one.
 #![tactic(auto)]
 
-ghost use Rattle.std.specs.Prelude.{◌≡◌, ◌&&◌, ◌||◌, not, ◌+◌, ◌*◌, ◌<◌, ◌≤◌, ◌^◌, leb, get_or, set};
+ghost use Rattle.std.specs.Prelude.{◌≡◌, ◌&&◌, ◌+◌, ◌*◌, ◌<◌, ◌^◌, leb, get_or, set};
 ghost use Rattle.clock.specs.Clock.{at};
-ghost use Rattle.layout.specs.Layout.{fifth_width};
 ghost use Rattle.book.specs.Rules.{atom_at, constraint_at};
 ghost use Rattle.choice.specs.Met.{nobody, time_place, job_place, triggered, put, token_time, token_job, time_of, bounds_hold, atom_holds, constraint_holds};
 ghost use Rattle.choice.specs.Asked.{ask_holds, term_placed, terms_placed, ask_placed, ask_passes, hold_so_far, tokens_of, TiedAt, Tied, alternative_of};
 
 use clock::Time;
+pub use layout::fifth_width;
 use lines::Token;
-use words::{number_at, word_at};
+use words::{Record, number_at, word_at};
 
 // What stands for a token that isn't there.
 pub fn nobody() -> Token
@@ -70,7 +71,7 @@ fn job_place(k: usize) -> usize
     1 + 3 * k + 2
 }
 
-// Stores a time at a place, if there is that place.
+// Stores a time at a place, if there is that place. (A slice's `get_mut` tells a proof nothing of what is written.)
 pub fn set_time(c: &mut [u64], i: usize, t: u64)
     ensures { c.new ≡ set c.old i t }
 {
@@ -83,7 +84,7 @@ pub fn set_time(c: &mut [u64], i: usize, t: u64)
 pub fn time_at(c: &[u64], i: usize, none: u64) -> u64
     ensures { result ≡ get_or c.now i none }
 {
-    if i < c.len() { c[i] } else { none }
+    c.get(i).copied().unwrap_or(none)
 }
 
 // Puts start, end and job of a token for name number k into the choice, which has no place for a name past the fourth.
@@ -114,72 +115,59 @@ pub fn token_job(c: &[u64; 16], k: u32) -> u64
 pub fn term(c: &[u64; 16], kind: u32, k: u32) -> Time
     ensures { result ≡ at (time_of c.now kind k) }
 {
-    if kind == 2 {
-        return Time { tick: k as u64 };
-    }
-    if kind == 3 {
-        let last = time_at(c, END_PLACE, 0);
-        return Time { tick: last };
-    }
-    let tick = token_time(c, kind, k);
+    let tick = match kind {
+        2 => k as u64,
+        3 => time_at(c, END_PLACE, 0),
+        _ => token_time(c, kind, k),
+    };
     Time { tick }
 }
 
 // Whether the times of an atom's two terms are within its bounds.
-fn bounds_hold(b: &[u32], c: &[u64; 16], place: usize) -> bool
-    requires { place < 2 ^ 60 }
-    ensures { result ≡ bounds_hold c.now (atom_at b.now place) }
+fn bounds_hold(atom: Record, c: &[u64; 16]) -> bool
+    ensures { result ≡ bounds_hold c.now (atom_at atom.entry.words.now atom.entry.place) }
 {
-    let left = term(c, word_at(b, place), word_at(b, place + 1));
-    let right = term(c, word_at(b, place + 2), word_at(b, place + 3));
-    left.in_bounds(right, word_at(b, place + 4), word_at(b, place + 5))
+    let left = term(c, atom.word(0), atom.word(1));
+    let right = term(c, atom.word(2), atom.word(3));
+    left.in_bounds(right, atom.word(4), atom.word(5))
 }
 
 // Whether an atom holds: two jobs are equal, or two times within bounds.
-fn atom_holds(b: &[u32], c: &[u64; 16], place: usize) -> bool
-    requires { place < 2 ^ 60 }
-    ensures { result ≡ atom_holds c.now (atom_at b.now place) }
+fn atom_holds(atom: Record, c: &[u64; 16]) -> bool
+    ensures { result ≡ atom_holds c.now (atom_at atom.entry.words.now atom.entry.place) }
 {
-    if word_at(b, place) == 4 {
-        let left = token_job(c, word_at(b, place + 1));
-        let right = token_job(c, word_at(b, place + 3));
+    if atom.word(0) == 4 {
+        let left = token_job(c, atom.word(1));
+        let right = token_job(c, atom.word(3));
         return left == right;
     }
-    bounds_hold(b, c, place)
+    bounds_hold(atom, c)
 }
 
-pub fn constraint_holds(b: &[u32], c: &[u64; 16], place: usize) -> bool
-    requires { place < 2 ^ 60 }
-    ensures { result ≡ constraint_holds c.now (constraint_at b.now place) }
+// Whether a constraint holds: its two tokens stand in a relation of its set.
+pub fn constraint_holds(constraint: Record, c: &[u64; 16]) -> bool
+    ensures { result ≡ constraint_holds c.now (constraint_at constraint.entry.words.now constraint.entry.place) }
 {
-    let l = word_at(b, place);
-    let r = word_at(b, place + 1);
+    let l = constraint.word(0);
+    let r = constraint.word(1);
     let k = allen::relation(
         token_time(c, 0, l),
         token_time(c, 1, l),
         token_time(c, 0, r),
         token_time(c, 1, r),
     );
-    words::in_set(word_at(b, place + 2), k)
+    words::in_set(constraint.word(2), k)
 }
 
 // The leaf in which the judge of a book and the direct judge of a sheet differ.
-fn ask_holds(e: usize, b: &[u32], c: &[u64; 16], place: usize) -> bool
-    requires { place < 2 ^ 60 }
-    ensures { result ≡ ask_holds e b.now c.now place }
+fn ask_holds(e: usize, ask: Record, c: &[u64; 16]) -> bool
+    ensures { result ≡ ask_holds e ask.entry.words.now c.now ask.entry.place }
 {
     if e == 2 {
-        constraint_holds(b, c, place)
+        constraint_holds(ask, c)
     } else {
-        atom_holds(b, c, place)
+        atom_holds(ask, c)
     }
-}
-
-// The words of a record of table 5.
-pub fn fifth_width(e: usize) -> usize
-    ensures { (result ≡ fifth_width e) × (result < 8) }
-{
-    if e == 2 { 3 } else { 6 }
 }
 
 // What an alternative names and asks: the edition, where its names and its asks are, and how many.
@@ -192,6 +180,7 @@ pub struct Alternative {
     pub asks: usize,
 }
 
+// The alternative whose four words stand at a place: where its names and its asks are, and how many.
 pub fn alternative_at(e: usize, b: &[u32], place: usize) -> Alternative
     requires { place < 2 ^ 60 }
     ensures { (result ≡ alternative_of e b.now place) × (result.name < 2 ^ 40) × (result.names < 2 ^ 32) × (result.ask < 2 ^ 40) × (result.asks < 2 ^ 32) }
@@ -214,8 +203,7 @@ pub fn alternative_at(e: usize, b: &[u32], place: usize) -> Alternative
 #[derive(Clone, Copy)]
 pub struct Tokens {
     pub value: u32,
-    pub tied: bool,
-    pub job: u64,
+    pub job: Option<u64>,
     pub width: usize,
     pub count: u64,
     pub place: usize,
@@ -234,8 +222,7 @@ pub fn tokens_of(b: &[u32], p: &[u32], name: usize) -> Tokens
     let place = lines::line_place(p, line);
     Tokens {
         value,
-        tied: false,
-        job: 0,
+        job: None,
         width,
         count: count as u64,
         place,
@@ -251,12 +238,10 @@ fn term_placed(kind: u32, x: u32, j: usize) -> bool
 }
 
 // Whether the times of an atom's two terms are known.
-fn terms_placed(b: &[u32], place: usize, j: usize) -> bool
-    requires { place < 2 ^ 60 }
-    ensures { result ≡ terms_placed b.now place j }
+fn terms_placed(atom: Record, j: usize) -> bool
+    ensures { result ≡ terms_placed atom.entry.words.now atom.entry.place j }
 {
-    term_placed(word_at(b, place), word_at(b, place + 1), j)
-        & term_placed(word_at(b, place + 2), word_at(b, place + 3), j)
+    term_placed(atom.word(0), atom.word(1), j) & term_placed(atom.word(2), atom.word(3), j)
 }
 
 // Whether two arguments name tokens that are placed.
@@ -266,33 +251,25 @@ fn tokens_placed(x: u32, y: u32, j: usize) -> bool
     (x as usize <= j) & (y as usize <= j)
 }
 
-// Whether the ask at a place can be tested once j names have their tokens.
-fn ask_placed(e: usize, b: &[u32], place: usize, j: usize) -> bool
-    requires { place < 2 ^ 60 }
-    ensures { result ≡ ask_placed e b.now place j }
+// Whether an ask can be tested once j names have their tokens.
+fn ask_placed(e: usize, ask: Record, j: usize) -> bool
+    ensures { result ≡ ask_placed e ask.entry.words.now ask.entry.place j }
 {
     if e == 2 {
-        return tokens_placed(word_at(b, place), word_at(b, place + 1), j);
+        return tokens_placed(ask.word(0), ask.word(1), j);
     }
-    if word_at(b, place) == 4 {
-        return tokens_placed(word_at(b, place + 1), word_at(b, place + 3), j);
+    if ask.word(0) == 4 {
+        return tokens_placed(ask.word(1), ask.word(3), j);
     }
-    terms_placed(b, place, j)
+    terms_placed(ask, j)
 }
 
-// Whether the ask at a place holds, or can't be tested yet; with all names placed each is tested.
-fn ask_passes(b: &[u32], a: Alternative, c: &[u64; 16], j: usize, place: usize) -> bool
-    requires { place < 2 ^ 60 }
-    ensures { result ≡ ask_passes b.now a c.now j place }
+// Whether an ask holds, or can't be tested yet; with all names placed each is tested.
+fn ask_passes(ask: Record, a: Alternative, c: &[u64; 16], j: usize) -> bool
+    ensures { result ≡ ask_passes ask.entry.words.now a c.now j ask.entry.place }
 {
-    let e = a.edition;
-    if a.names <= j {
-        return ask_holds(e, b, c, place);
-    }
-    if ask_placed(e, b, place, j) {
-        return ask_holds(e, b, c, place);
-    }
-    true
+    let untested = j < a.names && !ask_placed(a.edition, ask, j);
+    untested || ask_holds(a.edition, ask, c)
 }
 
 // Whether all that an alternative asks and that can be tested with j names placed holds.
@@ -301,72 +278,52 @@ pub fn hold_so_far(b: &[u32], a: Alternative, c: &[u64; 16], j: usize) -> bool
     ensures { result ≡ hold_so_far b.now a c.now j a.asks a.ask }
 {
     let width = fifth_width(a.edition);
-    let mut left = a.asks;
-    let mut place = a.ask;
-    while left != 0 {
-        if ask_passes(b, a, c, j, place) {
-            left -= 1;
-            place += width;
-        } else {
+    for i in 0..a.asks {
+        let ask = Record {
+            words: b,
+            place: a.ask + i * width,
+        };
+        if !ask_passes(ask, a, c, j) {
             return false;
         }
     }
     true
 }
 
-// The job that a name is asked for, if it is tied to one.
-#[derive(Clone, Copy)]
-pub struct Tie {
-    pub tied: bool,
-    pub job: u64,
-}
-
-// Whether the ask at a place, in a book, is an atom of jobs that ties name number k to the trigger or to a name before it.
-fn tie_at(b: &[u32], c: &[u64; 16], k: u32, place: usize) -> Tie
-    requires { place < 2 ^ 60 }
-    ensures { TiedAt b.now c.now k place result.tied result.job }
+// The job that an ask in a book ties name number k to, if it is an atom of jobs of that name and of the trigger or a name before it.
+fn tie_at(ask: Record, c: &[u64; 16], k: u32) -> Option<u64>
+    ensures { TiedAt ask.entry.words.now c.now k ask.entry.place result }
 {
-    if word_at(b, place) == 4 {
-        let x = word_at(b, place + 1);
-        let y = word_at(b, place + 3);
+    if ask.word(0) == 4 {
+        let x = ask.word(1);
+        let y = ask.word(3);
         if (x == k) & (y < k) {
-            let job = token_job(c, y);
-            return Tie { tied: true, job };
+            return Some(token_job(c, y));
         }
         if (y == k) & (x < k) {
-            let job = token_job(c, x);
-            return Tie { tied: true, job };
+            return Some(token_job(c, x));
         }
     }
-    Tie {
-        tied: false,
-        job: 0,
-    }
+    None
 }
 
 // The job that name number k is asked for, once the names before it are placed: by the first atom of jobs that ties it.
-pub fn job_asked(b: &[u32], a: Alternative, c: &[u64; 16], k: u32) -> Tie
+pub fn job_asked(b: &[u32], a: Alternative, c: &[u64; 16], k: u32) -> Option<u64>
     requires { a.ask + 8 * a.asks < 2 ^ 60 }
-    ensures { Tied b.now a c.now k result.tied result.job }
+    ensures { Tied b.now a c.now k result }
 {
     if (a.edition == 2) | (k > 4) {
-        return Tie {
-            tied: false,
-            job: 0,
+        return None;
+    }
+    for i in 0..a.asks {
+        let ask = Record {
+            words: b,
+            place: a.ask + i * 6,
         };
-    }
-    let mut left = a.asks;
-    let mut place = a.ask;
-    while left != 0 {
-        let t = tie_at(b, c, k, place);
-        if t.tied {
-            return t;
+        let job = tie_at(ask, c, k);
+        if job.is_some() {
+            return job;
         }
-        left -= 1;
-        place += 6;
     }
-    Tie {
-        tied: false,
-        job: 0,
-    }
+    None
 }

@@ -11,9 +11,9 @@ use native.Mathlib.Omega.{arith}
 use lib.Dec.{ltb, eqb}
 use lib.ListN.{length, get_or}
 use Rattle.answers.specs.declared.Numbers.{Numbers}
-use Rattle.answers.specs.declared.Answer.{Answer}
-use Rattle.answers.specs.declared.Answer.TheVariants.{Done, BookLength, BookHeader, BookEnd, BookRecord, PlanLength, PlanHeader, PlanEnd, ValueUnknown, DurationOutside, NotSuccessor, PastLastTick, RuleNotMet, EndsApart}
-use Rattle.answers.specs.Numbers.{numbers, numbers_of, no_fault, or_else}
+use Rattle.answers.specs.declared.Refusal.TheVariants.{BookLength, BookHeader, BookEnd, BookRecord, PlanLength, PlanHeader, PlanEnd, ValueUnknown, DurationOutside, NotSuccessor, PastLastTick, RuleNotMet, EndsApart}
+use Rattle.std.specs.Prelude.{Ok, Err}
+use Rattle.answers.specs.Numbers.{Answer, numbers, numbers_of, no_fault, or_else}
 use Rattle.answers.proofs.Stages.{else_fault, else_next}
 use Rattle.words.specs.Least.{first}
 use Rattle.layout.specs.Layout.{count, ending}
@@ -115,20 +115,20 @@ sheet-listed s p = all_listed 2 s p constraint_holds (rules_of constraints s)
 
 -- each listed answer is a case of the enum that the functions return
 pub has-answer : {x : Numbers} → Listed x → (r : Answer) × (numbers_of r ≡ x)
-has-answer book_length = (BookLength, refl)
-has-answer (book_header word) = (BookHeader word, refl)
-has-answer book_end = (BookEnd, refl)
-has-answer (book_record table row word) = (BookRecord table row word, refl)
-has-answer plan_length = (PlanLength, refl)
-has-answer (plan_header word) = (PlanHeader word, refl)
-has-answer plan_end = (PlanEnd, refl)
-has-answer (unknown timeline token) = (ValueUnknown timeline token, refl)
-has-answer (outside timeline token) = (DurationOutside timeline token, refl)
-has-answer (breaks timeline token) = (NotSuccessor timeline token, refl)
-has-answer (late timeline token) = (PastLastTick timeline token, refl)
-has-answer (apart timeline) = (EndsApart timeline, refl)
-has-answer (unmet rule token) = (RuleNotMet rule token, refl)
-has-answer (accepted triggers) = (Done triggers 0, refl)
+has-answer book_length = (Err BookLength, refl)
+has-answer (book_header word) = (Err (BookHeader word), refl)
+has-answer book_end = (Err BookEnd, refl)
+has-answer (book_record table row word) = (Err (BookRecord table row word), refl)
+has-answer plan_length = (Err PlanLength, refl)
+has-answer (plan_header word) = (Err (PlanHeader word), refl)
+has-answer plan_end = (Err PlanEnd, refl)
+has-answer (unknown timeline token) = (Err (ValueUnknown timeline token), refl)
+has-answer (outside timeline token) = (Err (DurationOutside timeline token), refl)
+has-answer (breaks timeline token) = (Err (NotSuccessor timeline token), refl)
+has-answer (late timeline token) = (Err (PastLastTick timeline token), refl)
+has-answer (apart timeline) = (Err (EndsApart timeline), refl)
+has-answer (unmet rule token) = (Err (RuleNotMet rule token), refl)
+has-answer (accepted triggers) = (Ok (record { a = triggers; b = 0 }), refl)
 
 -- so a contract that permits r where `numbers_of r` is the judge's answer permits one at least, and by OneAnswer no two
 pub judged-answer : (b p : List ℕ) → (r : Answer) × (numbers_of r ≡ judged b p)

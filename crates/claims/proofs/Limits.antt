@@ -6,7 +6,8 @@ use mathlib.Core.List.{List, [], ◌∷◌, ◌++◌, flat_map}
 use Prim.Native.Nat.{◌+◌}
 use lib.ListN.{replicate, set}
 use Rattle.answers.specs.declared.Numbers.{Numbers}
-use Rattle.answers.specs.declared.Answer.TheVariants.{TooManyAlternatives, TooLong, RoomTooShort, NoSuchTimeline}
+use Rattle.std.specs.Prelude.{Err}
+use Rattle.answers.specs.declared.Refusal.TheVariants.{TooManyAlternatives, TooLong, RoomTooShort, NoSuchTimeline}
 use Rattle.answers.specs.Numbers.{numbers_at, numbers, numbers_of, no_fault, or_else}
 use Rattle.words.specs.Lists.{any, all}
 use Rattle.words.specs.Words.{in_set}
@@ -226,10 +227,10 @@ translations =
     ∷ (size_fault (wide 2 (long 1)), no_fault)
     ∷ (size_fault (wide 3 (long 0)), numbers 14 6 0)
     -- the answers' own numbers; Listed of Answers has those of 0 to 12
-    ∷ (numbers_of (TooManyAlternatives 7), numbers 13 7 0)
-    ∷ (numbers_of (TooLong 7), numbers 14 7 0)
-    ∷ (numbers_of (RoomTooShort 7), numbers 15 7 0)
-    ∷ (numbers_of NoSuchTimeline, numbers 17 0 0)
+    ∷ (numbers_of (Err (TooManyAlternatives 7)), numbers 13 7 0)
+    ∷ (numbers_of (Err (TooLong 7)), numbers 14 7 0)
+    ∷ (numbers_of (Err (RoomTooShort 7)), numbers 15 7 0)
+    ∷ (numbers_of (Err NoSuchTimeline), numbers 17 0 0)
     ∷ []
 
 -- THE CLAIM: every row is as stated

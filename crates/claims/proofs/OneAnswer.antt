@@ -5,8 +5,7 @@ use mathlib.Core.Path.{◌≡◌, sym, ap, ◌∙◌}
 use mathlib.Core.Bool.{Bool}
 use mathlib.Core.List.{List}
 use Prim.Native.Nat.{ℕ}
-use Rattle.answers.specs.declared.Answer.{Answer}
-use Rattle.answers.specs.Numbers.{numbers_of}
+use Rattle.answers.specs.Numbers.{Answer, numbers_of}
 use Rattle.book.specs.Fault.{book_fault}
 use Rattle.lines.specs.declared.Position.{Position}
 use Rattle.lines.specs.declared.Step.{Step}

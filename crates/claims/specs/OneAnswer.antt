@@ -1,7 +1,6 @@
 -- What the theorems of proofs/OneAnswer are said in. Assumes nothing.
 use Rattle.std.specs.Prelude.{◌≡◌, Bool, List, ℕ, length}
-use Rattle.answers.specs.declared.Answer.{Answer}
-use Rattle.answers.specs.Numbers.{numbers_of}
+use Rattle.answers.specs.Numbers.{Answer, numbers_of}
 use Rattle.lines.specs.declared.Step.{Step}
 use Rattle.lines.specs.Walk.{position, names, step_of}
 use Rattle.translator.specs.Translation.{translation, room_after}

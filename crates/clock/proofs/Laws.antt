@@ -11,33 +11,33 @@ use lib.Signed.{le_z}
 use lib.Dec.{leb, ltb, eqb}
 use borrow.Author.Tests.{ltb-true, ltb-false, lt-ltb, le-ltb, leb-true, leb-false, le-leb, lt-leb, eqb-true, eq-eqb}
 use Rattle.clock.specs.declared.Time.{Time}
-use Rattle.clock.specs.declared.Later.TheVariants.{At, Past}
+use Rattle.std.specs.Prelude.{Some, None}
 use Rattle.clock.specs.Clock.{no_limit, at, later, in_bounds}
 
 -- a sum up to the last tick is a time
-pub later-at : (last t d : ℕ) → t + d ≤ last → later last t d ≡ At (at (t + d))
+pub later-at : (last t d : ℕ) → t + d ≤ last → later last t d ≡ Some (at (t + d))
 unfolding later
 later-at last t d h = rw (le-leb (t + d) last h)
 
 -- a sum above it is past
-pub later_past : (last t d : ℕ) → last < t + d → later last t d ≡ Past
+pub later_past : (last t d : ℕ) → last < t + d → later last t d ≡ None
 unfolding later
 later_past last t d h = rw (lt-leb (t + d) last h)
 
 -- and back: which case it is says how the test came out, and how the sum stands to the last tick
-pub case_past : (t : Bool) (x : Time) → cond t (At x) Past ≡ Past → t ≡ false
+pub case_past : (t : Bool) (x : Time) → cond t (Some x) None ≡ None → t ≡ false
 case_past true x h = cc
 case_past false x h = refl
 
-pub case_at : (t : Bool) (x e : Time) → cond t (At x) Past ≡ At e → (t ≡ true) × (x ≡ e)
+pub case_at : (t : Bool) (x e : Time) → cond t (Some x) None ≡ Some e → (t ≡ true) × (x ≡ e)
 case_at true x e h = (refl, cc)
 case_at false x e h = (cc, cc)
 
-pub past_is : (last t d : ℕ) → later last t d ≡ Past → ltb last (t + d) ≡ true
+pub past_is : (last t d : ℕ) → later last t d ≡ None → ltb last (t + d) ≡ true
 unfolding later
 past_is last t d h = lt-ltb last (t + d) (leb-false (t + d) last (case_past (leb (t + d) last) (at (t + d)) h))
 
-pub at-is : (last t d : ℕ) (end : Time) → later last t d ≡ At end → (ltb last (t + d) ≡ false) × (end.tick ≡ t + d)
+pub at-is : (last t d : ℕ) (end : Time) → later last t d ≡ Some end → (ltb last (t + d) ≡ false) × (end.tick ≡ t + d)
 unfolding later
 at-is last t d end h =
     let q = case_at (leb (t + d) last) (at (t + d)) end h in

@@ -1,9 +1,7 @@
 -- The time's two marks, a duration later, and a difference against bounds. Each takes its mark as an argument, so that its laws hold
 -- for any width and any mark. Assumes nothing.
-use Rattle.std.specs.Prelude.{ℕ, ◌+◌, Bool, ◌&&◌, ◌||◌, cond, leb, eqb}
+use Rattle.std.specs.Prelude.{Option, Some, None, ℕ, ◌+◌, Bool, ◌&&◌, ◌||◌, cond, leb, eqb}
 use Rattle.clock.specs.declared.Time.{Time}
-use Rattle.clock.specs.declared.Later.{Later}
-use Rattle.clock.specs.declared.Later.TheVariants.{At, Past}
 
 -- "the last tick 1,000,000,000"
 abbrev pub last_tick : ℕ
@@ -17,9 +15,9 @@ no_limit = 4294967295
 abbrev pub at : ℕ → Time
 at t = record { tick = t }
 
--- d after t, or past the last tick
-unfoldable pub later : ℕ → ℕ → ℕ → Later
-later last t d = cond (leb (t + d) last) (At (at (t + d))) Past
+-- d after t, or none past the last tick
+unfoldable pub later : ℕ → ℕ → ℕ → Option Time
+later last t d = cond (leb (t + d) last) (Some (at (t + d))) None
 
 -- "right minus left, as whole numbers, is at least lower and (unless N) at most upper"
 unfoldable pub in_bounds : ℕ → ℕ → ℕ → ℕ → ℕ → Bool

@@ -5,16 +5,9 @@ ghost use Rattle.std.specs.Prelude.{◌≡◌};
 ghost use Rattle.clock.specs.Clock.{last_tick, no_limit, later, in_bounds};
 
 // A time, in ticks. It is wide enough for the sum of any durations that lent words can hold, so that nothing wraps.
-#[derive(Clone, Copy)]
+#[derive(Clone, Copy, Debug, PartialEq, Eq, PartialOrd, Ord)]
 pub struct Time {
     pub tick: u64,
-}
-
-// The sum of a time and a duration: a time, or past the last tick.
-#[derive(Clone, Copy)]
-pub enum Later {
-    At(Time),
-    Past,
 }
 
 impl Time {
@@ -23,19 +16,19 @@ impl Time {
     // The last tick.
     pub const LAST_TICK: u64 = 1000000000;
 
-    // The time d ticks later, unless that is past the last tick.
-    pub fn plus(self, d: u32) -> Later
+    // The time d ticks later, or none where that is past the last tick.
+    pub fn plus(self, d: u32) -> Option<Time>
         ensures { result ≡ later last_tick self.tick d }
     {
         let t = self.tick;
         if t > Time::LAST_TICK {
-            return Later::Past;
+            return None;
         }
         let tick = t + d as u64;
         if tick > Time::LAST_TICK {
-            return Later::Past;
+            return None;
         }
-        Later::At(Time { tick })
+        Some(Time { tick })
     }
 
     // Whether right minus self, as whole numbers, is at least lower and, unless that is the mark, at most upper.

@@ -1,17 +1,18 @@
 -- Each list and each table from an index on: one element, and what is left behind it. Assumes nothing.
-use mathlib.Core.Path.{◌≡◌, refl, ap}
+use mathlib.Core.Path.{◌≡◌, refl, ap, ◌∙◌}
 use mathlib.Core.List.{List, [], ◌∷◌, ◌++◌, flat_map}
 use Prim.Native.Nat.{ℕ, ◌+◌, ◌-◌, ◌*◌, ◌^◌, ◌≤◌, ◌<◌}
 use native.Mathlib.Nat.{mul-le-mul_right}
 use native.Mathlib.Omega.{arith}
 use lib.ListN.{length, get_or, length-append}
+use Rattle.std.specs.List.{sum_by}
+use Rattle.std.proofs.lemmas.List.Sums.{sum_by-cons}
 use Rattle.words.specs.Words.{word}
-use Rattle.words.specs.Write.{Has}
 use Rattle.words.specs.Runs.{rows}
 use Rattle.words.proofs.Runs.{length_run}
 use Rattle.layout.specs.Layout.{offset}
 use Rattle.book.specs.Rules.{rule_at, alternative_at}
-use Rattle.listing.proofs.Going.{Going, run_more, run_none, drop_more, drop-none}
+use Rattle.listing.proofs.Going.{run_more, run_none, drop_more, drop-none}
 use Rattle.closing.specs.Left.{Ranged, numbers_from, total, rule_in, alternative_in, alternatives_of, words_at, alt_word, part, alts_from, rules_from, rows_from, parts_from, total_from}
 
 -- ---- numbers
@@ -46,21 +47,24 @@ pub record_words : (w n : ℕ) → w ≤ 6 → n < 2 ^ 32 → w * n < 2 ^ 35
 record_words w n a b = omega (arith, mul-le-mul_right n a)
 
 module _ (b : List ℕ) where
-  pub words-all : (k n : ℕ) → words_at b k n ≡ words_at b k (n - 0)
+  pub words-all : (k n : ℕ) → words_at b k n ≡ words_at b (k + 0) (n - 0)
   words-all k n =
       let all : n - 0 ≡ n = omega arith in
-      rw all
+      let at : k + 0 ≡ k = omega arith in
+      rw (all, at)
 
-  pub words_more : (k n i : ℕ) → i < n → words_at b k (n - i) ≡ (word b k ∷ []) ++ words_at b (k + 1) (n - (i + 1))
+  words_more : (k n i : ℕ) → i < n → words_at b k (n - i) ≡ (word b k ∷ []) ++ words_at b (k + 1) (n - (i + 1))
   unfolding words_at
   words_more k n i l = run_more (word b) 1 n i k l
+
+  pub words-next : (k n i : ℕ) → i < n → words_at b (k + i) (n - i) ≡ (word b (k + i) ∷ []) ++ words_at b (k + (i + 1)) (n - (i + 1))
+  words-next k n i l =
+      let at : k + i + 1 ≡ k + (i + 1) = omega arith in
+      rw (← at) (words_more (k + i) n i l)
 
   pub words-none : (k n i : ℕ) → n ≤ i → words_at b k (n - i) ≡ []
   unfolding words_at
   words-none k n i l = run_none (word b) 1 n i k l
-
-  pub words_room : (k n i : ℕ) {out : List ℕ} {at : ℕ} → i < n → Has out at (words_at b k (n - i)) → at < length out
-  words_room k n i l h = omega (arith, h.fits, ap length (words_more k n i l))
 
 -- ---- what is made of each
 
@@ -74,9 +78,6 @@ module _ (b left : List ℕ) (i : ℕ) where
 
     pub alts_range : Ranged b left → k + n ≤ 1024
     alts_range r = rw (hn, hk, hb, hx) (r i l)
-
-    pub alts_room : {l₀ all out : List ℕ} {at : ℕ} → length all ≤ 1024 → Going l₀ 0 all out at (alts_from b left i) → at + n ≤ 1024
-    alts_room few g = omega (arith, few, g.next, ap length alts_more, length-append (numbers_from n k) (alts_from b left (i + 1)), numbers-long n k)
 
   pub alts_none : length left ≤ i → alts_from b left i ≡ []
   unfolding alts_from flat_map
@@ -126,6 +127,15 @@ module _ (b alts : List ℕ) (i : ℕ) where
     unfolding parts_from flat_map
     parts_none j w o = rw (drop-none alts i l)
 
-    pub total-none : (j : ℕ) → total_from b alts j i ≡ 0
-    unfolding total_from total
-    total-none j = rw (drop-none alts i l)
+-- ---- what a word of each adds up to
+
+module _ (b : List ℕ) (j : ℕ) where
+  pub total_sum : (alts : List ℕ) → sum_by (alt_word b j) alts ≡ total_from b alts j 0
+  unfolding total_from total
+  total_sum [] = refl
+  total_sum (x ∷ xs) = sum_by-cons (alt_word b j) x xs ∙ ap (λ (n : ℕ). alt_word b j x + n) (total_sum xs)
+
+  pub total_small : ((k : ℕ) → word b k < 2 ^ 32) → (alts : List ℕ) → total_from b alts j 0 ≤ length alts * 2 ^ 32
+  unfolding total_from total alt_word
+  total_small h [] = omega arith
+  total_small h (x ∷ xs) = omega (arith, h (offset b 3 + 4 * x + j), total_small h xs)

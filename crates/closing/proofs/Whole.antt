@@ -9,10 +9,11 @@ use native.Mathlib.Omega.{arith}
 use lib.ListN.{length, take, drop, length-append, length-drop, length-map}
 use lib.Seq.{take_all, take_at, take-add, drop-drop, length-take-le}
 use Rattle.words.specs.Words.{word}
-use Rattle.words.specs.Write.{Has, Wrote, puts}
+use Rattle.words.specs.Write.{Wrote, puts}
 use Rattle.words.proofs.Write.{puts_eq, length-puts}
 use Rattle.words.specs.Runs.{run}
 use Rattle.words.proofs.Runs.{length_run, length-rows, length_flat}
+use Rattle.listing.proofs.Going.{front}
 use Rattle.layout.specs.Layout.{count, offset}
 use Rattle.book.specs.Rules.{Atom, Alternative, Rule, name_at, atom_at, alternative_at, rule_at}
 use Rattle.book.specs.Encode.{atoms, name_words, atom_words, rule_row, rule_next, rule_rows, alternative_row, alternative_next, alternative_rows, alts_of, names_of, asks_of, book_of}
@@ -180,14 +181,12 @@ module _ (b : List ℕ) (sound : Sound 1 b) where
       rw (← names_many b alts, ← asks_many b alts, ← length-map alts (alternative_in b), ← length-map left (rule_in b), ← same)
       (rebuilt-long (map (rule_in b) left))
 
--- ---- with the numbers as the code has them: m names, k atoms, and out as long as the book
+-- ---- with the numbers as the code has them: m names, k atoms
 
-pub record Laid (b left alts : List ℕ) (m k : ℕ) (out : List ℕ) : Type 0 where
+pub record Laid (b left alts : List ℕ) (m k : ℕ) : Type 0 where
   pub ends : offset b 2 + 4 * length left + 4 * length alts + 2 * m + 6 * k ≤ 16384
   pub begins : 14 ≤ offset b 2
   pub inside : offset b 2 ≤ length b
-  pub copied_is : length (copied b) ≡ offset b 2 - 14
-  pub has : Has out 0 (head_by b (length left) (length alts) m k ++ (copied b ++ tables_by b left alts))
   pub is : rebuilt b (map (rule_in b) left) ≡ head_by b (length left) (length alts) m k ++ (copied b ++ tables_by b left alts)
 
 module _ {b left alts : List ℕ} (r : Ready b left alts) where
@@ -197,9 +196,9 @@ module _ {b left alts : List ℕ} (r : Ready b left alts) where
   pub few_parts : (total_from b alts 1 0 ≤ 2048) × (total_from b alts 3 0 ≤ 2048)
   few_parts = rw r.listed (r.fitting.names, r.fitting.atoms)
 
-  pub laid : {m k : ℕ} {out : List ℕ} → length out ≡ length b → m ≡ total_from b alts 1 0 → k ≡ total_from b alts 3 0 → Laid b left alts m k out
+  pub laid : {m k : ℕ} → m ≡ total_from b alts 1 0 → k ≡ total_from b alts 3 0 → Laid b left alts m k
   unfolding book_by
-  laid {m} {k} {out} e hm hk =
+  laid {m} {k} hm hk =
       let sound = r.fitting.sound in
       let o = offsets sound in
       let size = book_long b sound left alts r.listed in
@@ -210,8 +209,6 @@ module _ {b left alts : List ℕ} (r : Ready b left alts) where
         ends = omega (arith, sound.short);
         begins = omega (arith, o.rules);
         inside = omega (arith, o.rules, o.all);
-        copied_is = copied-long b sound;
-        has = record { fits = omega (arith, ap length is) };
         is = is;
       }
 
@@ -226,3 +223,7 @@ copy_is {l} {l'} {b} {n} {r} w e h =
     let all : take n b ≡ b = take_all n b (omega arith) in
     let is : l' ≡ take 0 l ++ b ++ drop (0 + length b) l = w.same ∙ ap (puts l 0) all ∙ puts_eq l 0 b (omega arith) in
     rw is (take_at b (drop (0 + length b) l) n (sym e))
+
+-- the alternatives that were listed in lent words, as those words are left
+pub listed_front : {l m n ws : List ℕ} {r : ℕ} → Wrote l m 0 r ws → r ≤ length l → n ≡ m → take r n ≡ ws
+listed_front w h e = rw e (front w refl h)

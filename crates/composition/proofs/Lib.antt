@@ -3,4 +3,3 @@ pub mod Sets
 pub mod Ranks
 pub mod Rule
 pub mod Algebra
-mod Loops

@@ -1,8 +1,8 @@
 // Allen's composition: what two relations leave for a third pair, for single relations and for sets of them.
 #![tactic(auto)]
 
-ghost use Rattle.std.specs.Prelude.{◌≡◌};
-ghost use Rattle.composition.specs.Sets.{given};
+ghost use Rattle.std.specs.Prelude.{◌≡◌, ℕ, ◌<◌};
+ghost use Rattle.composition.specs.Sets.{chosen};
 ghost use Rattle.composition.specs.Table.{pair_set, row_set, compose_sets, converse_set};
 
 // Row p, column q: the set that relations p and q leave.
@@ -38,62 +38,44 @@ const COMPOSITION: [[u32; 13]; 13] = [
 pub fn compose_pair(p: u32, q: u32) -> u32
     ensures { result ≡ pair_set p q }
 {
-    if p < 13 {
-        if q < 13 {
-            let row = COMPOSITION[p as usize];
-            return row[q as usize];
-        }
-        return 0;
+    if p < 13 && q < 13 {
+        COMPOSITION[p as usize][q as usize]
+    } else {
+        0
     }
-    0
 }
 
-// The set s, or the empty one.
-fn given_set(test: bool, s: u32) -> u32
-    ensures { result ≡ given test s }
+// The union of what a function gives for each relation of a set.
+fn union_over<F: Fn(u32) -> u32>(set: u32, part: F) -> u32
+    requires { (k : ℕ) → k < 13 → F.pre part k }
+    ensures { (f : ℕ → ℕ) → ((k r : ℕ) → k < 13 → F.post part k r → r ≡ f k) → result ≡ chosen set f 13 }
 {
-    if test { s } else { 0 }
+    let mut union = 0;
+    for k in 0..13 {
+        if words::in_set(set, k) {
+            union |= part(k);
+        }
+    }
+    union
 }
 
 // What p and the relations of t leave.
 fn compose_row(p: u32, t: u32) -> u32
     ensures { result ≡ row_set p t }
 {
-    let mut r: u32 = 0;
-    let mut q: u32 = 0;
-    while q < 13 {
-        let one = given_set(words::in_set(t, q), compose_pair(p, q));
-        r = one | r;
-        q += 1;
-    }
-    r
+    union_over(t, |q| compose_pair(p, q))
 }
 
 // What the relations of s and of t leave: the composition of the two sets.
 pub fn compose(s: u32, t: u32) -> u32
     ensures { result ≡ compose_sets s t }
 {
-    let mut r: u32 = 0;
-    let mut p: u32 = 0;
-    while p < 13 {
-        let one = given_set(words::in_set(s, p), compose_row(p, t));
-        r = one | r;
-        p += 1;
-    }
-    r
+    union_over(s, |p| compose_row(p, t))
 }
 
 // The converses of the relations of s.
 pub fn converse_set(s: u32) -> u32
     ensures { result ≡ converse_set s }
 {
-    let mut r: u32 = 0;
-    let mut k: u32 = 0;
-    while k < 13 {
-        let bit: u32 = 1 << (12 - k);
-        let one = given_set(words::in_set(s, k), bit);
-        r = one | r;
-        k += 1;
-    }
-    r
+    union_over(s, |k| 1 << (12 - k))
 }

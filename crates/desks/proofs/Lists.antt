@@ -1,16 +1,15 @@
 -- The loop over the list of desks: each word passed is 0 or 1. Assumes nothing.
 use mathlib.Core.Path.{◌≡◌, refl, sym, ◌∙◌}
 use mathlib.Core.Bool.{Bool, true, false, ◌&&◌, false≢true}
+use mathlib.Core.Logic.{◌↔◌}
 use mathlib.Core.List.{List, [], ◌∷◌}
-use Prim.Native.Nat.{ℕ, zero, suc, ◌+◌, ◌≤◌, ◌<◌}
+use Prim.Native.Nat.{ℕ, zero, suc, ◌≤◌, ◌<◌}
 use native.Mathlib.Omega.{arith}
 use lib.Dec.{leb, eqb}
 use lib.ListN.{length, get_or}
-use borrow.Author.Count.{below_more}
 use borrow.Author.Tests.{eq-eqb, ne_eqb, leb-true, le-leb}
 use Rattle.words.specs.Words.{word}
 use Rattle.words.specs.Lists.{all}
-use Rattle.words.proofs.Lists.{and-false}
 use Rattle.layout.specs.Layout.{count}
 use Rattle.desks.specs.List.{list_right}
 
@@ -37,34 +36,21 @@ module _ {A : Type 0} (p : A → Bool) (d : A) where
 
 -- ---- the list of desks
 
--- the words before k are 0 or 1
-pub record Low (desks : List ℕ) (k : ℕ) : Type 0 where
-  pub each : (i : ℕ) → i < k → word desks i ≤ 1
-
-pub low_none : (desks : List ℕ) → Low desks 0
-low_none desks = record { each = λ i l. absurd (omega arith) }
-
-pub low_more : {desks : List ℕ} {k : ℕ} (w : ℕ) → Low desks k → w ≡ word desks k → w ≤ 1 → Low desks (k + 1)
-low_more {desks} {k} w h e low = record { each = below_more (λ i. word desks i ≤ 1) k h.each (omega arith) }
-
-module _ (b desks : List ℕ) where
+module _ (b desks : List ℕ) (m : ℕ) (e : m ≡ count b 2) where
   -- "a list of the wrong length"
-  pub wrong_length : (m : ℕ) → m ≡ count b 2 → (length desks ≡ m → ⊥) → false ≡ list_right b desks
+  pub wrong_length : (length desks ≡ m → ⊥) → eqb (length desks) m ≡ list_right b desks
   unfolding list_right
-  wrong_length m e h = rw (ne_eqb (length desks) (count b 2) (λ q. h (q ∙ sym e)))
+  wrong_length h = rw (ne_eqb (length desks) m h, ne_eqb (length desks) (count b 2) (λ q. h (q ∙ sym e)))
 
-  -- "a word over 1", here word k
-  pub wrong_word_lem : (k w : ℕ) → k < length desks → w ≡ word desks k → 1 < w → false ≡ list_right b desks
+  -- of the right length, and t says whether each word is 0 or 1
+  pub right_length : (t : Bool) → length desks ≡ m → (t ≡ true) ↔ ((i : ℕ) → i < length desks → word desks i ≤ 1) → t ≡ list_right b desks
   unfolding list_right
-  wrong_word_lem k w l e high = by (all (λ w. leb w 1) desks) refl
+  right_length t long low = rw (eq-eqb (length desks) (count b 2) (long ∙ e)) (same t low)
     where
-      by : (t : Bool) → all (λ w. leb w 1) desks ≡ t → false ≡ (eqb (length desks) (count b 2) && t)
-      by true q = absurd (omega (arith, leb-true (word desks k) 1 (at_all (λ w. leb w 1) 0 desks q k l)))
-      by false q = sym (and-false (eqb (length desks) (count b 2)))
-
-  -- all are
-  pub list_right_lem : (k m : ℕ) → m ≡ count b 2 → length desks ≡ m → Low desks k → length desks ≤ k → true ≡ list_right b desks
-  unfolding list_right
-  list_right_lem k m e long h over =
-      let low = all-at (λ w. leb w 1) 0 desks (λ i l. le-leb (word desks i) 1 (h.each i (omega arith))) in
-      rw (eq-eqb (length desks) (count b 2) (long ∙ e), low)
+      same : (t : Bool) → (t ≡ true) ↔ ((i : ℕ) → i < length desks → word desks i ≤ 1) → t ≡ all (λ w. leb w 1) desks
+      same true h = sym (all-at (λ w. leb w 1) 0 desks (λ i l. le-leb (word desks i) 1 (h.0 refl i l)))
+      same false h = by (all (λ w. leb w 1) desks) refl
+        where
+          by : (s : Bool) → all (λ w. leb w 1) desks ≡ s → false ≡ s
+          by true q = h.1 (λ i l. leb-true (word desks i) 1 (at_all (λ w. leb w 1) 0 desks q i l))
+          by false q = refl

@@ -18,9 +18,8 @@ use Rattle.lines.specs.declared.Token.{Token}
 use Rattle.lines.specs.Lines.{line_of}
 use Rattle.choice.specs.Met.{Choice, atom_holds}
 use Rattle.choice.proofs.Typed.{book_reads}
-use Rattle.verdict.specs.declared.Tally.{Tally}
 use Rattle.verdict.specs.Judged.{no_rule, trigger_line, is_trigger, examined, first_unmet, rule_unmet}
-use Rattle.verdict.specs.Survey.{Surveyed}
+use Rattle.verdict.specs.Survey.{AllMet, OneUnmet}
 use Rattle.verdict.proofs.Typed.{first-same, rule_same}
 use Rattle.desks.specs.Own.{numbered, of_desk, own_rules, triggers_of, fault_from, numbered_fault, own_fault}
 
@@ -84,26 +83,26 @@ module _ (b p : List ℕ) where
   unfolding rules_of
   rules_long = length_run (rule_at atoms b) 4 (count b 2) (offset b 2)
 
-  -- what is told of rule i
-  record Told (i : ℕ) (s : Tally) : Type 0 where
-    unmet : s.unmet ≡ rule_unmet atom_holds (line_of p) (get_or (rules_of atoms b) i no_rule)
-    token : s.unmet ≡ true → s.token ≡ first_unmet atom_holds (line_of p) (get_or (rules_of atoms b) i no_rule)
-    count : s.unmet ≡ false → s.count ≡ triggers_of (line_of p) (get_or (rules_of atoms b) i no_rule)
+  -- what a survey tells of rule i
+  module _ (i : ℕ) (l : i < count b 2) where
+    here : get_or (rules_of atoms b) i no_rule ≡ rule_at atoms b (record_at 1 b 2 i)
+    unfolding rules_of
+    here = run_at (rule_at atoms b) 4 (count b 2) (offset b 2) i no_rule l
 
-  count-told : (i : ℕ) (s : Tally) → Surveyed 1 b p (record_at 1 b 2 i) s → s.unmet ≡ false
-      → s.count ≡ triggers_of (line_of p) (rule_at atoms b (record_at 1 b 2 i))
-  unfolding trigger_line is_trigger rule_at
-  count-told i s h e = h.count e
+    -- it is met, with so many trigger tokens
+    told-met : (n : ℕ) → AllMet 1 b p (record_at 1 b 2 i) n → rule_unmet atom_holds (line_of p) (get_or (rules_of atoms b) i no_rule) ≡ false
+    told-met n h = rw here (rule_same atoms atom_holds 1 b p (book_reads b) (record_at 1 b 2 i) ∙ h.unmet)
 
-  told : (i : ℕ) (s : Tally) → i < count b 2 → Surveyed 1 b p (record_at 1 b 2 i) s → Told i s
-  unfolding rules_of
-  told i s l h =
-      let here = run_at (rule_at atoms b) 4 (count b 2) (offset b 2) i no_rule l in
-      record {
-        unmet = rw here (h.unmet ∙ sym (rule_same atoms atom_holds 1 b p (book_reads b) (record_at 1 b 2 i)));
-        token = λ e. rw here (h.token e ∙ sym (first-same atoms atom_holds 1 b p (book_reads b) (record_at 1 b 2 i)));
-        count = λ e. rw here (count-told i s h e);
-      }
+    told-count : (n : ℕ) → AllMet 1 b p (record_at 1 b 2 i) n → n ≡ triggers_of (line_of p) (get_or (rules_of atoms b) i no_rule)
+    unfolding trigger_line is_trigger rule_at
+    told-count n h = rw here h.count
+
+    -- it isn't
+    told-unmet : (t : ℕ) → OneUnmet 1 b p (record_at 1 b 2 i) t → rule_unmet atom_holds (line_of p) (get_or (rules_of atoms b) i no_rule) ≡ true
+    told-unmet t h = rw here (rule_same atoms atom_holds 1 b p (book_reads b) (record_at 1 b 2 i) ∙ h.unmet)
+
+    told-token : (t : ℕ) → OneUnmet 1 b p (record_at 1 b 2 i) t → t ≡ first_unmet atom_holds (line_of p) (get_or (rules_of atoms b) i no_rule)
+    told-token t h = rw here (h.token ∙ sym (first-same atoms atom_holds 1 b p (book_reads b) (record_at 1 b 2 i)))
 
 -- the loop stands before rule number `rule` of n
 pub record OnDesk (b p desks : List ℕ) (desk n rule seen : ℕ) : Type 0 where
@@ -131,24 +130,24 @@ module _ {b p desks : List ℕ} {desk n rule seen : ℕ} (h : OnDesk b p desks d
   pub desk_other : (w ≡ desk → ⊥) → OnDesk b p desks desk n (rule + 1) seen
   desk_other other = record { all = h.all; on = own_other atom_holds (line_of p) desks desk (rules_of atoms b) h.on below (λ e. other (hw ∙ e)) }
 
-  module _ (own : w ≡ desk) (s : Tally) (hs : Surveyed 1 b p (record_at 1 b 2 rule) s) where
-    says : Told b p rule s
-    says =
-        let all = h.all in
-        told b p rule s (omega arith) hs
+  within : rule < count b 2
+  within = let all = h.all in omega arith
 
-    pub desk_fits : s.unmet ≡ false → seen + s.count < 2 ^ 32
-    desk_fits met = omega (arith, own_fits atom_holds (line_of p) desks desk (rules_of atoms b) h.on below, says.count met)
+  module _ (own : w ≡ desk) where
+    module _ (c : ℕ) (s : AllMet 1 b p (record_at 1 b 2 rule) c) where
+      pub desk_fits : seen + c < 2 ^ 32
+      desk_fits = omega (arith, own_fits atom_holds (line_of p) desks desk (rules_of atoms b) h.on below, told-count b p rule within c s)
 
-    pub desk_met : s.unmet ≡ false → OnDesk b p desks desk n (rule + 1) (seen + s.count)
-    desk_met met =
-        record {
-          all = h.all;
-          on = rw (says.count met)
-              (own-met atom_holds (line_of p) desks desk (rules_of atoms b) h.on below (sym hw ∙ own) (sym says.unmet ∙ met));
-        }
+      pub desk_met : OnDesk b p desks desk n (rule + 1) (seen + c)
+      desk_met =
+          record {
+            all = h.all;
+            on = rw (told-count b p rule within c s)
+                (own-met atom_holds (line_of p) desks desk (rules_of atoms b) h.on below (sym hw ∙ own) (told-met b p rule within c s));
+          }
 
-    pub desk_unmet : s.unmet ≡ true → numbers 12 rule s.token ≡ own_fault b p desks desk
+    pub desk_unmet : (token : ℕ) → OneUnmet 1 b p (record_at 1 b 2 rule) token → numbers 12 rule token ≡ own_fault b p desks desk
     unfolding own_fault
-    desk_unmet unmet =
-        rw (says.token unmet) (own-unmet atom_holds (line_of p) desks desk (rules_of atoms b) h.on below (sym hw ∙ own) (sym says.unmet ∙ unmet))
+    desk_unmet token s =
+        rw (told-token b p rule within token s)
+        (own-unmet atom_holds (line_of p) desks desk (rules_of atoms b) h.on below (sym hw ∙ own) (told-unmet b p rule within token s))

@@ -10,25 +10,14 @@ ghost use Rattle.verdict.specs.Judged.{examined};
 ghost use Rattle.desks.specs.List.{list_right};
 ghost use Rattle.desks.specs.Own.{own_fault, judged_desk};
 
-use answers::Answer;
+use answers::{Answer, Done, Refusal};
 use words::{number_at, word_at};
 
 // Whether a lent list has one word for each rule of the book, 0 or 1.
 pub fn list_right(book: &[u32], desks: &[u32]) -> bool
     ensures { result ≡ list_right book.now desks.now }
 {
-    let n = desks.len();
-    if n != number_at(book, 6) {
-        return false;
-    }
-    let mut k = 0;
-    while k < n {
-        if word_at(desks, k) > 1 {
-            return false;
-        }
-        k += 1;
-    }
-    true
+    desks.len() == number_at(book, 6) && desks.iter().all(|desk| *desk <= 1)
 }
 
 // The rules of a desk in order: the first that isn't met, with its number in the book, or how many trigger tokens were examined.
@@ -37,38 +26,26 @@ fn examine_own(b: &[u32], p: &[u32], desks: &[u32], desk: u32) -> Answer
     ensures { numbers_of result ≡ own_fault b.now p.now desks.now desk }
 {
     let n = word_at(b, 6);
-    let mut rule: u32 = 0;
     let mut seen: u32 = 0;
-    while rule < n {
+    for rule in 0..n {
         if word_at(desks, rule as usize) == desk {
-            let s = verdict::survey_rule(b, p, rule);
-            if s.unmet {
-                return Answer::RuleNotMet {
-                    rule,
-                    token: s.token,
-                };
+            match verdict::survey_rule(b, p, rule) {
+                Ok(count) => seen += count,
+                Err(token) => return Err(Refusal::RuleNotMet { rule, token }),
             }
-            seen += s.count;
         }
-        rule += 1;
     }
-    Answer::Done { a: seen, b: 0 }
+    Ok(Done { a: seen, b: 0 })
 }
 
 // A desk's own judgement of a book and a plan that it shares with another; the list says whose each rule is.
 pub fn judge_desk(book: &[u32], plan: &[u32], desks: &[u32], desk: u32) -> Answer
     ensures { numbers_of result ≡ judged_desk book.now plan.now desks.now desk }
 {
-    let first = book::check(book, 1);
-    if answers::numbers_of(first).number != 0 {
-        return first;
+    book::check(book, 1)?;
+    if !list_right(book, desks) || desk > 1 {
+        return Err(Refusal::NoSuchDesk);
     }
-    if !(list_right(book, desks) & (desk <= 1)) {
-        return Answer::NoSuchDesk;
-    }
-    let second = plan::check(book, plan);
-    if answers::numbers_of(second).number != 0 {
-        return second;
-    }
+    plan::check(book, plan)?;
     examine_own(book, plan, desks, desk)
 }

@@ -11,8 +11,7 @@ use native.Mathlib.Omega.{arith}
 use lib.Dec.{leb}
 use Rattle.words.specs.Lists.{all}
 use Rattle.answers.specs.declared.Numbers.{Numbers}
-use Rattle.answers.specs.declared.Answer.{Answer}
-use Rattle.answers.specs.Numbers.{numbers, numbers_of, no_fault, or_else}
+use Rattle.answers.specs.Numbers.{Answer, numbers, numbers_of, no_fault, or_else}
 use Rattle.answers.proofs.Stages.{else_fault, else_next, stages}
 use Rattle.answers.proofs.OneCase.{one_answer}
 use Rattle.book.specs.Rules.{rules_of, variables_of}

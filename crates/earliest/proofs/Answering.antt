@@ -8,10 +8,10 @@ use Prim.Native.Nat.{ℕ, ◌+◌, ◌*◌, ◌≤◌, ◌<◌}
 use native.Mathlib.Omega.{arith}
 use lib.ListN.{length, get_or}
 use borrow.Author.Tests.{eq-eqb, ne_eqb}
+use Rattle.std.specs.Prelude.{Option, None, Some}
 use Rattle.answers.specs.declared.Numbers.{Numbers}
 use Rattle.answers.specs.Numbers.{numbers_at, numbers}
 use Rattle.words.proofs.Runs.{length_run}
-use Rattle.clock.specs.Clock.{no_limit}
 use Rattle.layout.specs.Layout.{count}
 use Rattle.book.specs.Rules.{name_at, alternative_at, rule_at}
 use Rattle.book.specs.Sound.{Sound}
@@ -24,6 +24,7 @@ use Rattle.earliest.specs.declared.Places.{Places}
 use Rattle.earliest.specs.Times.{Times, shown_from, shown, laid, alternative_of, rule_of, SuitsOf, Told}
 use Rattle.earliest.specs.Steps.{table_times, Added, Blank, NamesTimed, AtomsTimed, Triggered, trigger_of, places_of, Fits, Asked, Filled, Least, Decided}
 use Rattle.earliest.proofs.Decoding.{fits, suits_of, slots_of, slot_zero, slot_start, slot_end, slot_last, asked_of}
+use Rattle.earliest.proofs.Owning.{mark_of_none, no_mark_of_some}
 use Rattle.earliest.proofs.Showing.{shown_le}
 
 -- a book with the answer number 0 is sound
@@ -33,7 +34,7 @@ sound_book {b} e = sound 1 b (good 1 b (no_number 1 b e))
 -- ---- the table
 
 -- filled with the trigger, the names and the atoms, it says what the alternative asks
-pub filled : {b : List ℕ} {t : Trigger} {p : Places} {w₀ w₁ w₂ w₃ : List ℕ} → Blank w₀ → Added (Triggered b t) w₀ w₁
+pub filled : {b : List ℕ} {t : Option Trigger} {p : Places} {w₀ w₁ w₂ w₃ : List ℕ} → Blank w₀ → Added (Triggered b t) w₀ w₁
     → Added (NamesTimed b p.name p.names) w₁ w₂ → Added (AtomsTimed b p.atom p.atoms) w₂ w₃ → Filled b t p w₃
 filled e t n q = record {
   fresh = q.fresh;
@@ -47,7 +48,7 @@ filled e t n q = record {
 }
 
 -- its least times are those of what is asked
-pub least : {b : List ℕ} {t : Trigger} {p : Places} {w : List ℕ} {r : Bool} {before x : List ℕ} → Filled b t p w → bounds.Earliest w r before x
+pub least : {b : List ℕ} {t : Option Trigger} {p : Places} {w : List ℕ} {r : Bool} {before x : List ℕ} → Filled b t p w → bounds.Earliest w r before x
     → Least (Asked b t p) r x
 least f e = record {
   meets = λ q. let h = e.meets q in (f.says _ h.starts).0 h.meets;
@@ -62,15 +63,15 @@ names-long : (b : List ℕ) (a : ℕ) → length (alternative_of b a).names ≡ 
 unfolding alternative_at
 names-long b a = length_run (name_at b) 2 (places_of b a).names (places_of b a).name
 
-shown_without : (b : List ℕ) (a : ℕ) (x : Times) → (trigger_of b a).variable ≡ no_limit
+shown_without : (b : List ℕ) (a : ℕ) (x : Times) → None ≡ trigger_of b a
     → shown (rule_of b a) (alternative_of b a) x ≡ shown_from x 1 (places_of b a).names
 unfolding shown rule_at
-shown_without b a x e = rw (eq-eqb _ _ e, names-long b a)
+shown_without b a x e = rw (eq-eqb _ _ (mark_of_none _ _ e), names-long b a)
 
-shown_with : (b : List ℕ) (a : ℕ) (x : Times) → ((trigger_of b a).variable ≡ no_limit → ⊥)
+shown_with : (b : List ℕ) (a : ℕ) (x : Times) (t : Trigger) → Some t ≡ trigger_of b a
     → shown (rule_of b a) (alternative_of b a) x ≡ shown_from x 0 ((places_of b a).names + 1)
 unfolding shown rule_at
-shown_with b a x e = rw (ne_eqb _ _ e, names-long b a)
+shown_with b a x t e = rw (ne_eqb _ _ (no_mark_of_some _ _ t e), names-long b a)
 
 module _ {b : List ℕ} {a : ℕ} (e : (book_fault 1 b).number ≡ 0) (there : a < count b 3) where
   -- "no": no times of the table, so none of the alternative
@@ -108,21 +109,21 @@ module _ {b : List ℕ} {a : ℕ} (e : (book_fault 1 b).number ≡ 0) (there : a
       could_not = λ z. absurd (true≢false z);
     }
 
-    pub decided_without : (trigger_of b a).variable ≡ no_limit
+    pub decided_without : None ≡ trigger_of b a
         → {before after : List ℕ} → after ≡ laid before (shown_from (table_times x) 1 (places_of b a).names) → Decided b a true before after
     decided_without u t =
         let few = (fits (sound_book e) a there).few in
         decided_yes 1 (places_of b a).names (omega arith) (λ y. shown_without b a y u) t
 
-    pub decided_with : ((trigger_of b a).variable ≡ no_limit → ⊥)
+    pub decided_with : (v : Trigger) → Some v ≡ trigger_of b a
         → {before after : List ℕ} → after ≡ laid before (shown_from (table_times x) 0 ((places_of b a).names + 1)) → Decided b a true before after
-    decided_with u t =
+    decided_with v u t =
         let few = (fits (sound_book e) a there).few in
-        decided_yes 0 ((places_of b a).names + 1) (omega arith) (λ y. shown_with b a y u) t
+        decided_yes 0 ((places_of b a).names + 1) (omega arith) (λ y. shown_with b a y v u) t
 
 -- ---- the same of a trigger and places that were read
 
-module _ {b : List ℕ} {a : ℕ} {t : Trigger} {p : Places} (e : (book_fault 1 b).number ≡ 0) (there : a < count b 3) (et : t ≡ trigger_of b a)
+module _ {b : List ℕ} {a : ℕ} {t : Option Trigger} {p : Places} (e : (book_fault 1 b).number ≡ 0) (there : a < count b 3) (et : t ≡ trigger_of b a)
     (ep : p ≡ places_of b a)
   where
     pub fits_read : Fits b t p
@@ -135,15 +136,15 @@ module _ {b : List ℕ} {a : ℕ} {t : Trigger} {p : Places} (e : (book_fault 1 
       pub no_read : (l : List ℕ) → r ≡ false → Decided b a false l l
       no_read l n = decided_no e there l n least-read
 
-      pub without_read : r ≡ true → t.variable ≡ no_limit
+      pub without_read : r ≡ true → t ≡ None
           → {before after : List ℕ} → after ≡ laid before (shown_from (table_times x) 1 p.names) → Decided b a true before after
       without_read q u s =
-          decided_without e there q least-read (ap (λ (t : Trigger). t.variable) (sym et) ∙ u) (rw ep at s)
+          decided_without e there q least-read (sym u ∙ et) (rw ep at s)
 
-      pub with_read : r ≡ true → (t.variable ≡ no_limit → ⊥)
+      pub with_read : (v : Trigger) → r ≡ true → t ≡ Some v
           → {before after : List ℕ} → after ≡ laid before (shown_from (table_times x) 0 (p.names + 1)) → Decided b a true before after
-      with_read q u s =
-          decided_with e there q least-read (λ z. u (ap (λ (t : Trigger). t.variable) et ∙ z)) (rw ep at s)
+      with_read v q u s =
+          decided_with e there q least-read v (sym u ∙ et) (rw ep at s)
 
 -- there are few alternatives
 pub few_alternatives_lem : (b : List ℕ) (a : ℕ) → (book_fault 1 b).number ≡ 0 → a < count b 3 → a ≤ 1024
@@ -167,10 +168,6 @@ module _ {b : List ℕ} {a : ℕ} {r : Bool} {before after : List ℕ} (e : (boo
 
   pub told_no : r ≡ false → Told b a (numbers 0 0 0) before after
   told_no q = record { refused = λ z. absurd (z e); unknown = λ _ m. absurd (omega arith); known = λ _ _. inr (refl, h.could_not q) }
-
--- the book's number was read as 0
-pub sound_read : (b : List ℕ) {n m : Numbers} → n ≡ m → m ≡ book_fault 1 b → n.number ≡ 0 → (book_fault 1 b).number ≡ 0
-sound_read b p q z = sym (ap (λ (x : Numbers). x.number) (p ∙ q)) ∙ z
 
 -- ---- what is told of words and numbers that are the same
 

@@ -9,13 +9,14 @@ use lib.ListN.{get_or}
 use Rattle.words.specs.Words.{word}
 use Rattle.words.proofs.Runs.{length_run, run_at}
 use Rattle.clock.specs.Clock.{no_limit}
-use Rattle.layout.specs.Layout.{fifth_width, count, offset, field, owner, values_of}
+use Rattle.layout.specs.Layout.{fifth_width, count, offset, record_at, field, owner, values_of}
 use Rattle.book.specs.Rules.{value_at, variable_at, name_at, atom_at, alternative_at, rule_at, variables_of}
 use Rattle.book.specs.Sound.{Exist, BoundsSound, TermSound, AtomSound, Sound}
 use Rattle.book.proofs.Inside.{offsets, first_word, in_range, alternative_ranges, ask_ranges, owner_owns, owner_at}
 use Rattle.earliest.specs.Times.{Times, time_of, AtomMet, Lasting, no_value, no_variable, no_name, no_atom, value_of, TokenTimes, SuitsOf}
-use Rattle.earliest.specs.Steps.{times_of, LimitsFit, KindFits, AtomFits, AtomTimes, value_place, NameFits, trigger_of, places_of, Fits, Asked}
+use Rattle.earliest.specs.Steps.{times_of, LimitsFit, KindFits, AtomFits, AtomTimes, value_place, NameFits, Named, trigger_of, places_of, Fits, Asked}
 use Rattle.earliest.proofs.Filling.{limits_as}
+use Rattle.earliest.proofs.Owning.{of_trigger}
 
 -- ---- it fits
 
@@ -50,7 +51,8 @@ module _ {b : List ℕ} (s : Sound 1 b) where
 
   module _ (a : ℕ) (l : a < count b 3) where
     -- the trigger and the names of alternative a exist
-    pub trigger_exists : ((trigger_of b a).variable ≡ no_limit → ⊥) → Exist 1 b (trigger_of b a).variable (trigger_of b a).value
+    pub trigger_exists : (word b (record_at 1 b 2 (owner 1 b 2 2 a)) ≡ no_limit → ⊥)
+        → Exist 1 b (word b (record_at 1 b 2 (owner 1 b 2 2 a))) (field 1 b 2 (owner 1 b 2 2 a) 1)
     trigger_exists n =
         let r = owner 1 b 2 2 a in
         ⊎_elim
@@ -80,7 +82,7 @@ module _ {b : List ℕ} (s : Sound 1 b) where
         let c5 = s.header.few 5 (omega arith) in
         let few = h.names.few in
         record {
-          trigger = λ n. name_fits _ _ (trigger_exists n);
+          trigger = (of_trigger _ _ (λ t. NameFits b t.variable t.value)).1 (λ n. name_fits _ _ (trigger_exists n));
           few = few;
           near = (omega (arith, h.names.inside), omega (arith, h.asks.inside));
           names = λ i m. name_fits _ _ (name_exists i m);
@@ -115,7 +117,9 @@ module _ {b : List ℕ} (s : Sound 1 b) (a : ℕ) (l : a < count b 3) where
   suits_of z h =
       let p = places_of b a in
       record {
-        trigger = λ n. (lasting b _ _ 0 (times_of z) (trigger_exists s a l n)).0 (h.trigger n);
+        trigger = λ n.
+            (lasting b _ _ 0 (times_of z) (trigger_exists s a l n)).0
+            ((of_trigger _ _ (λ t. Named b 0 t.variable t.value z)).0 h.trigger n);
         names = λ i m.
             let there : i < p.names = omega (arith, length_run (name_at b) 2 p.names p.name) in
             rw (run_at (name_at b) 2 p.names p.name i no_name there)
@@ -201,7 +205,8 @@ module _ {b : List ℕ} (s : Sound 1 b) (a : ℕ) (l : a < count b 3) where
       let names = length_run (name_at b) 2 p.names p.name in
       let asks = length_run (atom_at b) 6 p.atoms p.atom in
       record {
-        trigger = λ n. lasting_slots x (omega arith) ((lasting b _ _ 0 x (trigger_exists s a l n)).1 (h.trigger n));
+        trigger = (of_trigger _ _ (λ t. Named b 0 t.variable t.value (slots_of x))).1
+            (λ n. lasting_slots x (omega arith) ((lasting b _ _ 0 x (trigger_exists s a l n)).1 (h.trigger n)));
         names = λ i m.
             lasting_slots x (omega arith)
             ((lasting b _ _ (i + 1) x (name_exists s a l i m)).1

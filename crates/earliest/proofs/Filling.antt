@@ -4,13 +4,15 @@ use mathlib.Core.Path.{◌≡◌, refl, ap, ◌∙◌}
 use mathlib.Core.Bool.{Bool, true, false, ◌&&◌, ◌||◌, false≢true}
 use mathlib.Core.Logic.{◌↔◌, ◌⊎◌, inl, inr, ⊎_elim}
 use mathlib.Core.List.{List}
-use Prim.Native.Nat.{ℕ, zero, suc, ◌+◌, ◌*◌, ◌≤◌, ◌<◌}
+use Prim.Native.Nat.{ℕ, zero, suc, ◌+◌, ◌*◌, ◌≤◌, ◌<◌, max}
 use native.Mathlib.Omega.{arith}
 use borrow.Author.Count.{below_more}
 use borrow.Author.Tests.{eqb-true, eqb-false, leb-true, le-leb, eq-eqb, ne_eqb}
 use lib.Dec.{eqb, leb}
-use lib.ListN.{length, get_or, set, length-set, get_or-eq_default}
+use lib.ListN.{length, get_or, set, take, drop, replicate, length-set, get_or-eq_default, get_or-append}
 use lib.Seq.{get_or-set_same, get_or-set_other}
+use Rattle.std.proofs.Common.{◌++◌, ◌-◌, length-append, length-drop, length-take-le}
+use Rattle.std.proofs.lemmas.List.{set-get_or, length-replicate, get_or-append_right, get_or-drop, get_or-replicate}
 use Rattle.words.specs.Words.{word}
 use Rattle.clock.specs.Clock.{no_limit, last_tick, in_bounds}
 use Rattle.clock.proofs.Laws.{lt_or_ge}
@@ -50,14 +52,14 @@ added_none w f e = record { fresh = f; says = λ z o. (λ h. (h, e z), λ h. h.0
 
 module _ (w : List ℕ) (i j e : ℕ) (f : Open w) (hi : i < 12) (hj : j < 12) where
   -- it is there already
-  pub bound_there : e ≤ entry w i j → Added (Bound i j e) w w
+  bound_there : e ≤ entry w i j → Added (Bound i j e) w w
   bound_there l = record {
     fresh = f;
     says = λ z o. (λ h. (h, λ p. omega (arith, h i j hi hj (omega arith))), λ h. h.0);
   }
 
   -- it is put
-  pub bound_put : entry w i j ≤ e → Near (reach 12) e → Added (Bound i j e) w (set w (i * 12 + j) e)
+  bound_put : entry w i j ≤ e → Near (reach 12) e → Added (Bound i j e) w (set w (i * 12 + j) e)
   bound_put l n =
       let size = f.size in
       let here : entry (set w (i * 12 + j) e) i j ≡ e = get_or-set_same w (i * 12 + j) e 0 (omega arith) in
@@ -97,6 +99,17 @@ module _ (w : List ℕ) (i j e : ℕ) (f : Open w) (hi : i < 12) (hj : j < 12) w
               let size = f.size in
               inl (s, rw (s, get_or-set_same w (i * 12 + j) e 0 (omega arith)) l)
           go false q = inr (get_or-set_other w (i * 12 + j) p e 0 (eqb-false p (i * 12 + j) q))
+
+-- the higher of the two stands there
+pub bound_raised : (w : List ℕ) (i j e r : ℕ) → r ≡ max (entry w i j) e → Open w → i < 12 → j < 12 → Near (reach 12) e
+    → Added (Bound i j e) w (set w (i * 12 + j) r)
+bound_raised w i j e r is f hi hj n =
+    ⊎_elim
+    (λ (l : entry w i j < e). let s : r ≡ e = omega arith in rw s (bound_put w i j e f hi hj (omega arith) n))
+    (λ (l : e ≤ entry w i j).
+    let s : r ≡ get_or w (i * 12 + j) 0 = omega arith in
+    rw (s, set-get_or w (i * 12 + j) 0) (bound_there w i j e f hi hj l))
+    (lt_or_ge (entry w i j) e)
 
 -- how far from 0 a bound may be at first, as a number
 pub near_first : (e : ℕ) → e ≤ origin + 2147483648 → origin ≤ e + 2147483648 → Near (reach 12) e
@@ -227,19 +240,11 @@ names_more b at n z = (
 
 -- ---- a table that says nothing yet
 
--- the first p numbers of the table are those of one that only says that no time is below 0
-abbrev pub Cleared : ℕ → List ℕ → Type 0
-Cleared p w = (q : ℕ) → q < p → ((q < 12) × (get_or w q 0 ≡ origin)) ⊎ ((12 ≤ q) × (get_or w q 0 ≡ 0))
+-- the numbers of the table are those of one that only says that no time is below 0
+abbrev Cleared : List ℕ → Type 0
+Cleared w = (q : ℕ) → q < 144 → ((q < 12) × (get_or w q 0 ≡ origin)) ⊎ ((12 ≤ q) × (get_or w q 0 ≡ 0))
 
-pub cleared_set : (w : List ℕ) (p e : ℕ) → p < length w → ((p < 12) × (e ≡ origin)) ⊎ ((12 ≤ p) × (e ≡ 0)) → Cleared p w → Cleared (p + 1) (set w p e)
-cleared_set w p e l h c =
-    below_more
-    (λ q. ((q < 12) × (get_or (set w p e) q 0 ≡ origin)) ⊎ ((12 ≤ q) × (get_or (set w p e) q 0 ≡ 0)))
-    p
-    (λ q m. rw (get_or-set_other w p q e 0 (λ s. omega arith)) (c q m))
-    (rw (get_or-set_same w p e 0 l) h)
-
-pub cleared_blank : (w : List ℕ) → length w ≡ 144 → Cleared 144 w → Blank w
+cleared_blank : (w : List ℕ) → length w ≡ 144 → Cleared w → Blank w
 cleared_blank w size c = record {
   fresh = record {
     size = size;
@@ -264,6 +269,32 @@ cleared_blank w size c = record {
         (λ q. rw q.1 (record { high = omega arith; low = λ s. omega arith }))
         (λ q. rw q.1 (record { high = omega arith; low = λ s. absurd (omega arith) }))
         h
+
+-- no bound in a whole table, and then bounds of 0 in its first twelve places
+pub blank : (w : List ℕ) {a b : List ℕ} → length w ≡ 144 → b ≡ replicate (length w) 0 → a ≡ replicate (length (take 12 b)) origin → Blank (a ++ drop 12 b)
+blank w {a} {b} size eb ea =
+    let lb : length b ≡ 144 = ap length eb ∙ (length-replicate (length w) 0 ∙ size) in
+    let ln : length (take 12 b) ≡ 12 = length-take-le 12 b (omega arith) in
+    let la : length a ≡ 12 = ap length ea ∙ (length-replicate (length (take 12 b)) origin ∙ ln) in
+    cleared_blank
+    (a ++ drop 12 b)
+    (omega (arith, length-append a (drop 12 b), length-drop 12 b))
+    (λ q l.
+    ⊎_elim
+    (λ (h : q < 12).
+    inl (
+      h,
+      get_or-append a (drop 12 b) 0 q (omega arith)
+          ∙ (ap (λ (s : List ℕ). get_or s q 0) ea ∙ get_or-replicate (length (take 12 b)) q origin 0 (omega arith)),
+    ))
+    (λ (h : 12 ≤ q).
+    inr (
+      h,
+      get_or-append_right a (drop 12 b) 12 q 0 la h
+          ∙ (get_or-drop 12 b (q - 12) 0
+          ∙ (ap (λ (s : List ℕ). get_or s (12 + (q - 12)) 0) eb ∙ get_or-replicate (length w) (12 + (q - 12)) 0 0 (omega arith))),
+    ))
+    (lt_or_ge q 12))
 
 -- ---- the same of numbers that were read
 

@@ -1,9 +1,9 @@
 -- The times that are shown: where each stands in the table, that of two choices the earlier shows the earlier, and that copying them one by
 -- one lays them at the start of the lent words. Assumes nothing.
 use mathlib.Core.Path.{◌≡◌, refl, sym, ap, ◌∙◌}
-use mathlib.Core.Logic.{◌⊎◌, ⊎_elim}
+use mathlib.Core.Logic.{⊎_elim}
 use mathlib.Core.List.{List, [], ◌∷◌}
-use Prim.Native.Nat.{ℕ, zero, suc, ◌+◌, ◌*◌, ◌≤◌, ◌<◌}
+use Prim.Native.Nat.{ℕ, zero, suc, ◌+◌, ◌*◌, ◌≤◌, ◌<◌, min}
 use native.Mathlib.Nat.{eq-or-lt_of_le}
 use native.Mathlib.Omega.{arith}
 use lib.ListN.{length, get_or, set, length-set}
@@ -77,9 +77,6 @@ laid-rest (w ∷ ws) (t ∷ ts) (suc i) l = laid-rest ws ts i (omega arith)
 
 -- ---- copied one by one
 
-pub copied_none : (f : ℕ → ℕ) (l : List ℕ) → Copied f 0 l l
-copied_none f l = record { long = refl; here = λ i m. absurd (omega arith); rest = λ i m. refl }
-
 pub copied-set : {f : ℕ → ℕ} {n : ℕ} {before l : List ℕ} (r : ℕ) → n < length l → r ≡ f n → Copied f n before l → Copied f (n + 1) before (set l n r)
 copied-set {f} {n} {before} {l} r m e c = record {
   long = length-set l n r ∙ c.long;
@@ -89,14 +86,6 @@ copied-set {f} {n} {before} {l} r m e c = record {
       (λ i p q. get_or-set_other l n i r 0 (λ s. omega arith) ∙ c.here i p q)
       (λ _. get_or-set_same l n r 0 m ∙ e);
   rest = λ i p. get_or-set_other l n i r 0 (λ s. omega arith) ∙ c.rest i (omega arith);
-}
-
--- where all of the room is used, or all that is to be copied
-copied_full : {f : ℕ → ℕ} {n : ℕ} {before l : List ℕ} (m : ℕ) → length before ≤ n → n ≤ m → Copied f n before l → Copied f m before l
-copied_full m p q c = record {
-  long = c.long;
-  here = λ i a b. c.here i (omega arith) b;
-  rest = λ i a. c.rest i (omega arith);
 }
 
 copied-laid : (ts : List ℕ) {before l : List ℕ} → Copied (λ i. get_or ts i 0) (length ts) before l → l ≡ laid before ts
@@ -110,11 +99,9 @@ copied-laid ts {before} {l} c =
     (lt_or_ge i (length ts)))
 
 -- all that there was room for was copied
-pub all-copied : (ts : List ℕ) {before l : List ℕ} (m all : ℕ) → all ≡ length ts → ((m ≡ all) ⊎ ((m ≡ length before) × (length before ≤ all)))
-    → Copied (λ i. get_or ts i 0) m before l → l ≡ laid before ts
-all-copied ts {before} m all e s c =
-    copied-laid ts
-    (⊎_elim
-    (λ (q : m ≡ all). rw (q ∙ e) at c)
-    (λ q. copied_full (length ts) (omega (arith, q.0)) (omega (arith, q.0, q.1)) c)
-    s)
+pub all-copied : (ts : List ℕ) {before l : List ℕ} (m : ℕ) → m ≡ min (length ts) (length before) → Copied (λ i. get_or ts i 0) m before l
+    → l ≡ laid before ts
+all-copied ts {before} m e c =
+    copied-laid
+    ts
+    (record { long = c.long; here = λ i p q. c.here i (omega arith) q; rest = λ i p. c.rest i (omega arith) })

@@ -1,6 +1,6 @@
 -- What the functions on the way show of each other: bounds put into a table, and times copied into lent words. No caller of the crate sees
 -- these. Assumes nothing.
-use Rattle.std.specs.Prelude.{◌≡◌, Bool, true, false, ◌↔◌, List, ℕ, ◌+◌, ◌*◌, ◌≤◌, ◌<◌, length, get_or}
+use Rattle.std.specs.Prelude.{◌≡◌, Bool, true, false, cond, eqb, ◌↔◌, List, ℕ, ◌+◌, ◌*◌, ◌≤◌, ◌<◌, length, get_or, Option, None, Some, IfSome}
 use Rattle.words.specs.Words.{word}
 use Rattle.clock.specs.Clock.{no_limit, last_tick, in_bounds}
 use Rattle.layout.specs.Layout.{offset, record_at, field, owner}
@@ -104,14 +104,22 @@ Named b k u v z = Lasting (word b (value_place b u v)) (word b (value_place b u 
 abbrev pub NamesTimed : List ℕ → ℕ → ℕ → (ℕ → ℕ) → Type 0
 NamesTimed b at n z = (i : ℕ) → i < n → Named b (i + 1) (word b (at + i * 2)) (word b (at + i * 2 + 1)) z
 
-abbrev pub Triggered : List ℕ → Trigger → (ℕ → ℕ) → Type 0
-Triggered b t z = (t.variable ≡ no_limit → ⊥) → Named b 0 t.variable t.value z
+-- the same of the trigger, if there is one
+abbrev pub TriggerFits : List ℕ → Option Trigger → Type 0
+TriggerFits b trigger = IfSome trigger (λ t. NameFits b t.variable t.value)
+
+abbrev pub Triggered : List ℕ → Option Trigger → (ℕ → ℕ) → Type 0
+Triggered b trigger z = IfSome trigger (λ t. Named b 0 t.variable t.value z)
 
 -- ---- a whole alternative
 
+-- a rule's trigger, of its first two words: none where the first is the mark
+abbrev pub trigger_at : ℕ → ℕ → Option Trigger
+trigger_at variable value = cond (eqb variable no_limit) None (Some (record { variable = variable; value = value }))
+
 -- the trigger of the rule that alternative a belongs to
-abbrev pub trigger_of : List ℕ → ℕ → Trigger
-trigger_of b a = record { variable = word b (record_at 1 b 2 (owner 1 b 2 2 a)); value = field 1 b 2 (owner 1 b 2 2 a) 1 }
+abbrev pub trigger_of : List ℕ → ℕ → Option Trigger
+trigger_of b a = trigger_at (word b (record_at 1 b 2 (owner 1 b 2 2 a))) (field 1 b 2 (owner 1 b 2 2 a) 1)
 
 -- where its names and atoms are, and how many
 abbrev pub places_of : List ℕ → ℕ → Places
@@ -124,21 +132,21 @@ places_of b a =
     }
 
 -- all of them can be put
-pub record Fits (b : List ℕ) (t : Trigger) (p : Places) : Type 0 where
-  pub trigger : (t.variable ≡ no_limit → ⊥) → NameFits b t.variable t.value
+pub record Fits (b : List ℕ) (t : Option Trigger) (p : Places) : Type 0 where
+  pub trigger : TriggerFits b t
   pub few : p.names ≤ 4
   pub near : (p.name < 1048576) × (p.atom + p.atoms * 6 < 1048576)
   pub names : (i : ℕ) → i < p.names → NameFits b (word b (p.name + i * 2)) (word b (p.name + i * 2 + 1))
   pub atoms : (i : ℕ) → i < p.atoms → AtomFits b (p.atom + i * 6)
 
 -- what they ask of the times
-pub record Asked (b : List ℕ) (t : Trigger) (p : Places) (z : ℕ → ℕ) : Type 0 where
+pub record Asked (b : List ℕ) (t : Option Trigger) (p : Places) (z : ℕ → ℕ) : Type 0 where
   pub trigger : Triggered b t z
   pub names : NamesTimed b p.name p.names z
   pub atoms : AtomsTimed b p.atom p.atoms z
 
 -- the table says just that
-pub record Filled (b : List ℕ) (t : Trigger) (p : Places) (w : List ℕ) : Type 0 where
+pub record Filled (b : List ℕ) (t : Option Trigger) (p : Places) (w : List ℕ) : Type 0 where
   pub fresh : Open w
   pub says : (z : ℕ → ℕ) → z 0 ≡ 0 → Meets w z ↔ Asked b t p z
 

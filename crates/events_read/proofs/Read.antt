@@ -1,6 +1,6 @@
 -- Which lists the writer could have made; what reading answers and leaves in the room, case by case. Assumes nothing.
 use mathlib.Core.Path.{◌≡◌, refl, sym, ap, ◌∙◌}
-use mathlib.Core.Bool.{Bool, true, false, ◌&&◌, not, cond, true≢false}
+use mathlib.Core.Bool.{Bool, true, false, ◌&&◌, cond, true≢false}
 use mathlib.Core.List.{List}
 use Prim.Native.Nat.{ℕ, ◌+◌, ◌≤◌, ◌<◌}
 use native.Mathlib.Decide.{ℕ_discrete}
@@ -13,8 +13,12 @@ use Rattle.words.specs.Words.{word}
 use Rattle.words.specs.Write.{puts, Wrote}
 use Rattle.words.proofs.Write.{puts_eq, length-puts}
 use Rattle.answers.specs.declared.Numbers.{Numbers}
-use Rattle.answers.specs.Numbers.{numbers, no_fault, or_else}
-use Rattle.answers.proofs.Stages.{else_next}
+use Rattle.std.specs.Prelude.{Ok, Err}
+use Rattle.std.specs.Bool.{then_some}
+use Rattle.std.specs.Result.{is_err}
+use Rattle.answers.specs.declared.Refusal.{Refusal}
+use Rattle.answers.specs.Numbers.{Answer, numbers, numbers_of, no_fault, or_else}
+use Rattle.answers.proofs.Stages.{else_next, or_refused, refusal_number, refused_number, done_number}
 use Rattle.book.specs.Fault.{book_fault}
 use Rattle.book.proofs.Good.{good, no_number}
 use Rattle.book.proofs.Sound.{sound}
@@ -27,8 +31,18 @@ use Rattle.event_list.proofs.Good.{writes}
 use Rattle.event_list.proofs.Size.{longest}
 use Rattle.event_list.proofs.Again.{could_iff}
 use Rattle.listed.specs.Ready.{Ready}
-use Rattle.events_read.specs.Found.{Finds}
-use Rattle.listed.proofs.Outcome.{stop, Outcome, refused, short, done, ready}
+use Rattle.events_read.specs.Found.{Plan, Finds}
+use Rattle.listed.proofs.Outcome.{Outcome, refused, short, done, ready}
+
+-- ---- a check that refused, and one that didn't
+
+pub refused_is : (r : Answer) (x : Numbers) → numbers_of r ≡ x → is_err r ≡ true → x.number ≡ 0 → ⊥
+refused_is (Ok d) x h e = absurd (true≢false (sym e))
+refused_is (Err r) x h e = refused_number r x h
+
+pub done_is : (r : Answer) (x : Numbers) → numbers_of r ≡ x → is_err r ≡ false → x.number ≡ 0
+done_is (Ok d) x h e = done_number d x h
+done_is (Err r) x h e = absurd (true≢false e)
 
 -- ---- which lists could have been written
 
@@ -40,15 +54,15 @@ module _ (b : List ℕ) (book : (book_fault 1 b).number ≡ 0) where
   ready_plan p n h e = ready b p n (writes b p book h) e
 
   module _ (w : List ℕ) where
-    not_made : (could_be_written b w ≡ true → ⊥) → false ≡ could_be_written b w
+    not_made : (could_be_written b w ≡ true → ⊥) → could_be_written b w ≡ false
     not_made h = by (could_be_written b w) h
       where
-        by : (t : Bool) → (t ≡ true → ⊥) → false ≡ t
+        by : (t : Bool) → (t ≡ true → ⊥) → t ≡ false
         by true n = absurd (n refl)
         by false n = refl
 
     -- a plan that passes has at most 16,384 words, and its list at most 65,367
-    pub list_too_long : 65536 < length w → false ≡ could_be_written b w
+    pub list_too_long : 65536 < length w → could_be_written b w ≡ false
     list_too_long l =
         not_made (λ h.
         let m = (could_iff b book w).0 h in
@@ -61,8 +75,8 @@ module _ (b : List ℕ) (book : (book_fault 1 b).number ≡ 0) where
     unfolding could_be_written
     made-not h = rw (ne_eqb _ 0 h)
 
-    pub plan_too_long : 16384 < length (plan_from b w) → false ≡ could_be_written b w
-    plan_too_long l = made-not (λ h. omega (arith, (writes b (plan_from b w) book h).plan.short, l))
+    pub plan_too_long : 16384 < length (plan_from b w) → could_be_written b w ≡ false
+    plan_too_long l = sym (made-not (λ h. omega (arith, (writes b (plan_from b w) book h).plan.short, l)))
 
     pub made-is : (p : List ℕ) → p ≡ plan_from b w → (plan_fault b p).number ≡ 0 → {l m : List ℕ} {at : ℕ} {s : Bool}
         → Sends w l m 0 true at s (list_of p) → (s && eqb at (length w)) ≡ could_be_written b w
@@ -90,6 +104,12 @@ put_is {l} {m} {ws} {r} h fits =
 pub wrote_length : {l m ws : List ℕ} {at r : ℕ} → Wrote l m at r ws → length m ≡ length l
 wrote_length {l} {ws = ws} {at = at} h = ap length h.same ∙ length-puts l at ws
 
+-- what `find` gives, by what `made` says of the plan
+pub finds : (b w plan : List ℕ) (words : ℕ) (t : Bool) → t ≡ could_be_written b w → words ≡ length (plan_from b w) → words ≤ 16384
+    → take words plan ≡ plan_from b w → Finds b w plan (then_some t words)
+finds b w plan words true e l f p = record { made = sym e; long = l; few = f; plan_is = p }
+finds b w plan words false e l f p = sym e
+
 -- ---- the answer and the room
 
 else_assoc : (x y z : Numbers) → or_else x (or_else y z) ≡ or_else (or_else x y) z
@@ -112,44 +132,27 @@ module _ (b w room : List ℕ) where
       let e = else_assoc (book_fault 1 b) (list_fault b w) (into (plan_from b w) (length room)) in
       (o.numbers ∙ sym e, o.left ∙ ap (λ (x : Numbers). room_after x (plan_from b w) room) (sym e))
 
-  pub read_refused : {n : Numbers} (r : Numbers) → r ≡ book_fault 1 b → n ≡ r → (n.number ≡ 0 → ⊥)
-      → (r ≡ read_events b w (length room)) × (room ≡ read_room b w room)
-  read_refused r e q h = read (refused _ _ _ r (stop (list_fault b w) e q h) q h)
+  pub read_refused : (r : Refusal) → numbers_of (Err r) ≡ book_fault 1 b
+      → (numbers_of (Err r) ≡ read_events b w (length room)) × (room ≡ read_room b w room)
+  read_refused r e = read (refused _ _ _ (numbers_of (Err r)) (or_refused r (book_fault 1 b) (list_fault b w) e) refl (refusal_number r))
 
-  module _ (book : (book_fault 1 b).number ≡ 0) (t : Bool) (is : t ≡ could_be_written b w) where
-    pub read-not : not t ≡ true → (numbers 20 0 0 ≡ read_events b w (length room)) × (room ≡ read_room b w room)
+  module _ (book : (book_fault 1 b).number ≡ 0) where
+    pub read-not : could_be_written b w ≡ false → (numbers 20 0 0 ≡ read_events b w (length room)) × (room ≡ read_room b w room)
     unfolding list_fault
     read-not h =
-        let e : numbers 20 0 0 ≡ fault = sym (else_next (book_fault 1 b) (list_fault b w) book ∙ rw (← is) (by t h)) in
+        let e : numbers 20 0 0 ≡ fault = sym (else_next (book_fault 1 b) (list_fault b w) book ∙ rw h) in
         read (refused _ _ _ _ e refl (λ z. omega (arith, z)))
-      where
-        by : (t : Bool) → not t ≡ true → cond t no_fault (numbers 20 0 0) ≡ numbers 20 0 0
-        by false h = refl
-        by true h = absurd (true≢false (sym h))
 
-    clear : not t ≡ false → fault.number ≡ 0
-    unfolding list_fault
-    clear h =
-        let e : fault ≡ no_fault = else_next (book_fault 1 b) (list_fault b w) book ∙ rw (← is) (by t h) in
-        ap (λ (x : Numbers). x.number) e
-      where
-        by : (t : Bool) → not t ≡ false → cond t no_fault (numbers 20 0 0) ≡ no_fault
-        by true h = refl
-        by false h = absurd (true≢false h)
+    module _ (plan : List ℕ) (k : ℕ) (found : Plan b w plan k) where
+      clear : fault.number ≡ 0
+      unfolding list_fault
+      clear =
+          let e : fault ≡ no_fault = else_next (book_fault 1 b) (list_fault b w) book ∙ rw found.made in
+          ap (λ (x : Numbers). x.number) e
 
-    pub read_short : not t ≡ false → (k : ℕ) → k ≡ length (plan_from b w) → length room < k
-        → (numbers 21 k 0 ≡ read_events b w (length room)) × (room ≡ read_room b w room)
-    read_short h k e l = read (short _ _ _ (clear h) k e l)
+      pub read_short : length room < k → (numbers 21 k 0 ≡ read_events b w (length room)) × (room ≡ read_room b w room)
+      read_short l = read (short _ _ _ clear k found.long l)
 
-    pub read_done : not t ≡ false → (k : ℕ) → k ≡ length (plan_from b w) → k ≤ length room → (after ws : List ℕ) → after ≡ puts room 0 ws
-        → ws ≡ plan_from b w → (numbers 0 k 0 ≡ read_events b w (length room)) × (after ≡ read_room b w room)
-    read_done h k e l after ws q same = read (done _ _ _ (clear h) k e l after (q ∙ ap (puts room 0) same))
-
-pub is_made : (t : Bool) → not t ≡ false → t ≡ true
-is_made true h = refl
-is_made false h = sym h
-
--- a list that couldn't have been written
-pub found-not : {b w : List ℕ} (plan : List ℕ) → false ≡ could_be_written b w → Finds b w plan (record { made = false; words = 0 })
-found-not plan e =
-    record { made = e; words = λ h. absurd (true≢false (sym h)); few = omega arith; plan_is = λ h. absurd (true≢false (sym h)) }
+      pub read_done : k ≤ length room → (after : List ℕ) → after ≡ puts room 0 (take k plan)
+          → (numbers 0 k 0 ≡ read_events b w (length room)) × (after ≡ read_room b w room)
+      read_done l after q = read (done _ _ _ clear k found.long l after (q ∙ ap (puts room 0) found.plan_is))

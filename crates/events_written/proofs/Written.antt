@@ -1,13 +1,15 @@
 -- What writing answers and leaves in the room, case by case. Assumes nothing.
-use mathlib.Core.Path.{◌≡◌, sym, ◌∙◌}
+use mathlib.Core.Path.{◌≡◌, refl, sym, ◌∙◌}
 use mathlib.Core.List.{List}
 use Prim.Native.Nat.{ℕ, ◌≤◌, ◌<◌}
 use lib.ListN.{length}
 use Rattle.words.specs.Words.{word}
 use Rattle.words.specs.Write.{puts}
 use Rattle.answers.specs.declared.Numbers.{Numbers}
-use Rattle.answers.specs.Numbers.{numbers}
-use Rattle.answers.proofs.Stages.{stages}
+use Rattle.std.specs.Prelude.{Err}
+use Rattle.answers.specs.declared.Refusal.{Refusal}
+use Rattle.answers.specs.Numbers.{numbers, numbers_of}
+use Rattle.answers.proofs.Stages.{stages, refusal_number}
 use Rattle.event_list.specs.Plans.{list_of}
 use Rattle.event_list.specs.Answers.{write_fault, written_events, written_room}
 use Rattle.event_list.proofs.Good.{Writes, writes}
@@ -30,9 +32,9 @@ module _ (b p : List ℕ) where
     unfolding written_events written_room
     written o = (o.numbers, o.left)
 
-    pub written_refused : {n : Numbers} (r : Numbers) → r ≡ write_fault b p → n ≡ r → (n.number ≡ 0 → ⊥)
-        → (r ≡ written_events b p (length room)) × (room ≡ written_room b p room)
-    written_refused r e q h = written (refused _ _ _ r e q h)
+    pub written_refused : (r : Refusal) → numbers_of (Err r) ≡ write_fault b p
+        → (numbers_of (Err r) ≡ written_events b p (length room)) × (room ≡ written_room b p room)
+    written_refused r e = written (refused _ _ _ (numbers_of (Err r)) e refl (refusal_number r))
 
     module _ (pass : (write_fault b p).number ≡ 0) (size : Swept) (is : Sized p size) where
       long : size.at ≡ length (list_of p)

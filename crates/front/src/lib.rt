@@ -15,9 +15,7 @@ pub fn judge(book: &[u8], plan: &[u8]) -> Answer
 {
     let mut b = [0u32; 16384];
     let mut p = [0u32; 16384];
-    let m = words::load(book, &mut b);
-    let n = words::load(plan, &mut p);
-    verdict::judge(&b[..m], &p[..n])
+    verdict::judge(words::loaded(book, &mut b), words::loaded(plan, &mut p))
 }
 
 // The answer for the bytes of a sheet, read directly, and a plan.
@@ -26,9 +24,7 @@ pub fn judge_sheet(sheet: &[u8], plan: &[u8]) -> Answer
 {
     let mut s = [0u32; 16384];
     let mut q = [0u32; 16384];
-    let m = words::load(sheet, &mut s);
-    let n = words::load(plan, &mut q);
-    verdict::judge_sheet(&s[..m], &q[..n])
+    verdict::judge_sheet(words::loaded(sheet, &mut s), words::loaded(plan, &mut q))
 }
 
 // The translation of a sheet's bytes into lent words.
@@ -36,6 +32,5 @@ pub fn translate(sheet: &[u8], room: &mut [u32]) -> Answer
     ensures { (numbers_of result ≡ translation (file_words sheet.now) (length room.old)) × (room.new ≡ room_after (file_words sheet.now) room.old) }
 {
     let mut s = [0u32; 16384];
-    let m = words::load(sheet, &mut s);
-    translator::translate(&s[..m], room)
+    translator::translate(words::loaded(sheet, &mut s), room)
 }

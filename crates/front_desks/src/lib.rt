@@ -14,9 +14,9 @@ pub fn judge_desk(book: &[u8], plan: &[u8], desks: &[u32], desk: u32) -> Answer
 {
     let mut b = [0u32; 16384];
     let mut p = [0u32; 16384];
-    let m = words::load(book, &mut b);
-    let n = words::load(plan, &mut p);
-    desks::judge_desk(&b[..m], &p[..n], desks, desk)
+    let book = words::loaded(book, &mut b);
+    let plan = words::loaded(plan, &mut p);
+    desks::judge_desk(book, plan, desks, desk)
 }
 
 // For C: a desk's own judgement.
@@ -36,9 +36,5 @@ pub extern "C" fn tteokbiran_judge_desk(
     ensures b_after { b.new ≡ (judged_desk (file_words book.now) (file_words plan.now) desks.now desk).b }
     ensures c_after { c.new ≡ (judged_desk (file_words book.now) (file_words plan.now) desks.now desk).c }
 {
-    let r = answers::numbers_of(judge_desk(book, plan, desks, desk));
-    *number = r.number;
-    *a = r.a;
-    *b = r.b;
-    *c = r.c;
+    answers::numbers_of(judge_desk(book, plan, desks, desk)).tell(number, a, b, c);
 }

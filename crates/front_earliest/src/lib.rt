@@ -13,8 +13,7 @@ pub fn earliest(book: &[u8], alternative: u32, times: &mut [u64]) -> Answer
     ensures { Told (file_words book.now) alternative (numbers_of result) times.old times.new }
 {
     let mut b = [0u32; 16384];
-    let m = words::load(book, &mut b);
-    earliest::earliest(&b[..m], alternative, times)
+    earliest::earliest(words::loaded(book, &mut b), alternative, times)
 }
 
 // For C: the earliest times of an alternative.
@@ -30,9 +29,5 @@ pub extern "C" fn tteokbiran_earliest(
 )
     ensures { Told (file_words book.now) alternative (numbers_at number.new a.new b.new c.new) times.old times.new }
 {
-    let r = answers::numbers_of(earliest(book, alternative, times));
-    *number = r.number;
-    *a = r.a;
-    *b = r.b;
-    *c = r.c;
+    answers::numbers_of(earliest(book, alternative, times)).tell(number, a, b, c);
 }

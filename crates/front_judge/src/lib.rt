@@ -21,11 +21,7 @@ pub extern "C" fn tteokbiran_judge(
     ensures b_after { b.new ≡ (judged (file_words book.now) (file_words plan.now)).b }
     ensures c_after { c.new ≡ (judged (file_words book.now) (file_words plan.now)).c }
 {
-    let by_book = answers::numbers_of(front::judge(book, plan));
-    *number = by_book.number;
-    *a = by_book.a;
-    *b = by_book.b;
-    *c = by_book.c;
+    answers::numbers_of(front::judge(book, plan)).tell(number, a, b, c);
 }
 
 // For C: the direct judge of a sheet and a plan.
@@ -43,11 +39,7 @@ pub extern "C" fn tteokbiran_judge_sheet(
     ensures b_after { b.new ≡ (judged_sheet (file_words sheet.now) (file_words plan.now)).b }
     ensures c_after { c.new ≡ (judged_sheet (file_words sheet.now) (file_words plan.now)).c }
 {
-    let by_sheet = answers::numbers_of(front::judge_sheet(sheet, plan));
-    *number = by_sheet.number;
-    *a = by_sheet.a;
-    *b = by_sheet.b;
-    *c = by_sheet.c;
+    answers::numbers_of(front::judge_sheet(sheet, plan)).tell(number, a, b, c);
 }
 
 // For C: the translator, into lent words.
@@ -66,9 +58,5 @@ pub extern "C" fn tteokbiran_translate(
     ensures c_after { c.new ≡ (translation (file_words sheet.now) (length room.old)).c }
     ensures room_after { room.new ≡ room_after (file_words sheet.now) room.old }
 {
-    let made = answers::numbers_of(front::translate(sheet, room));
-    *number = made.number;
-    *a = made.a;
-    *b = made.b;
-    *c = made.c;
+    answers::numbers_of(front::translate(sheet, room)).tell(number, a, b, c);
 }

@@ -13,8 +13,7 @@ pub fn narrow(sheet: &[u8], alternative: u32, table: &mut [u32]) -> Answer
     ensures { (numbers_of result ≡ narrowing (file_words sheet.now) alternative (length table.old)) × (table.new ≡ table_after (file_words sheet.now) alternative table.old) }
 {
     let mut s = [0u32; 16384];
-    let m = words::load(sheet, &mut s);
-    narrowing::narrow(&s[..m], alternative, table)
+    narrowing::narrow(words::loaded(sheet, &mut s), alternative, table)
 }
 
 // For C: narrowing, into a lent table.
@@ -34,9 +33,5 @@ pub extern "C" fn tteokbiran_narrow(
     ensures c_after { c.new ≡ (narrowing (file_words sheet.now) alternative (length table.old)).c }
     ensures table_after { table.new ≡ table_after (file_words sheet.now) alternative table.old }
 {
-    let r = answers::numbers_of(narrow(sheet, alternative, table));
-    *number = r.number;
-    *a = r.a;
-    *b = r.b;
-    *c = r.c;
+    answers::numbers_of(narrow(sheet, alternative, table)).tell(number, a, b, c);
 }

@@ -14,8 +14,7 @@ pub fn order_only(book: &[u8]) -> bool
     ensures { result ≡ order_only (file_words book.now) }
 {
     let mut b = [0u32; 16384];
-    let m = words::load(book, &mut b);
-    order::order_only(&b[..m])
+    order::order_only(words::loaded(book, &mut b))
 }
 
 // The answer by ranks for the bytes of a book and a plan.
@@ -24,9 +23,7 @@ pub fn judge_by_order(book: &[u8], plan: &[u8]) -> Answer
 {
     let mut b = [0u32; 16384];
     let mut p = [0u32; 16384];
-    let m = words::load(book, &mut b);
-    let n = words::load(plan, &mut p);
-    order::judge_by_order(&b[..m], &p[..n])
+    order::judge_by_order(words::loaded(book, &mut b), words::loaded(plan, &mut p))
 }
 
 // For C: whether a book speaks only of order.
@@ -52,9 +49,5 @@ pub extern "C" fn tteokbiran_judge_by_order(
     ensures b_after { b.new ≡ (judged_by_order (file_words book.now) (file_words plan.now)).b }
     ensures c_after { c.new ≡ (judged_by_order (file_words book.now) (file_words plan.now)).c }
 {
-    let by_order = answers::numbers_of(judge_by_order(book, plan));
-    *number = by_order.number;
-    *a = by_order.a;
-    *b = by_order.b;
-    *c = by_order.c;
+    answers::numbers_of(judge_by_order(book, plan)).tell(number, a, b, c);
 }

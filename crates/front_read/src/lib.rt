@@ -13,8 +13,7 @@ pub fn read_events(book: &[u8], list: &[u32], room: &mut [u32]) -> Answer
     ensures { (numbers_of result ≡ read_events (file_words book.now) list.now (length room.old)) × (room.new ≡ read_room (file_words book.now) list.now room.old) }
 {
     let mut b = [0u32; 16384];
-    let m = words::load(book, &mut b);
-    events_read::read_events(&b[..m], list, room)
+    events_read::read_events(words::loaded(book, &mut b), list, room)
 }
 
 // For C: a list of events back into a plan, in a lent room.
@@ -34,9 +33,5 @@ pub extern "C" fn tteokbiran_read_events(
     ensures c_after { c.new ≡ (read_events (file_words book.now) list.now (length room.old)).c }
     ensures room_after { room.new ≡ read_room (file_words book.now) list.now room.old }
 {
-    let r = answers::numbers_of(read_events(book, list, room));
-    *number = r.number;
-    *a = r.a;
-    *b = r.b;
-    *c = r.c;
+    answers::numbers_of(read_events(book, list, room)).tell(number, a, b, c);
 }

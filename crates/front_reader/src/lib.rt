@@ -28,14 +28,8 @@ pub extern "C" fn tteokbiran_open(
     ensures token_after { token.new ≡ (open_at book.now plan.now line).token }
 {
     let opened = reader::open(book, plan, line);
-    let answer = opened.answer;
-    let at = opened.at;
-    let told = answers::numbers_of(answer);
-    *number = told.number;
-    *a = told.a;
-    *b = told.b;
-    *c = told.c;
-    *token = at.token;
+    answers::numbers_of(opened.answer).tell(number, a, b, c);
+    *token = opened.at.token;
 }
 
 // For C: a step on a timeline of lent words. Whether a token was handed out; then its value, end and job are there, and token and
@@ -60,12 +54,10 @@ pub extern "C" fn tteokbiran_step(
     };
     match reader::read_at(plan, at) {
         Step::Handed(t, next) => {
-            let stop = t.end;
-            let begin = next.start;
             *token = next.token;
-            *start = begin.tick;
+            *start = next.start.tick;
             *value = t.value;
-            *end = stop.tick;
+            *end = t.end.tick;
             *job = t.job;
             true
         }

@@ -22,9 +22,5 @@ pub extern "C" fn tteokbiran_remove_rules(
     ensures book_after { book.new ≡ book_after book.old desks.old list.now }
     ensures desks_after { desks.new ≡ desks_after book.old desks.old list.now }
 {
-    let r = answers::numbers_of(removal::remove_rules(book, desks, list));
-    *number = r.number;
-    *a = r.a;
-    *b = r.b;
-    *c = r.c;
+    answers::numbers_of(removal::remove_rules(book, desks, list)).tell(number, a, b, c);
 }

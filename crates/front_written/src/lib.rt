@@ -14,9 +14,9 @@ pub fn write_events(book: &[u8], plan: &[u8], room: &mut [u32]) -> Answer
 {
     let mut b = [0u32; 16384];
     let mut p = [0u32; 16384];
-    let m = words::load(book, &mut b);
-    let n = words::load(plan, &mut p);
-    events_written::write_events(&b[..m], &p[..n], room)
+    let book = words::loaded(book, &mut b);
+    let plan = words::loaded(plan, &mut p);
+    events_written::write_events(book, plan, room)
 }
 
 // For C: a plan as events, into a lent room.
@@ -36,9 +36,5 @@ pub extern "C" fn tteokbiran_write_events(
     ensures c_after { c.new ≡ (written_events (file_words book.now) (file_words plan.now) (length room.old)).c }
     ensures room_after { room.new ≡ written_room (file_words book.now) (file_words plan.now) room.old }
 {
-    let r = answers::numbers_of(write_events(book, plan, room));
-    *number = r.number;
-    *a = r.a;
-    *b = r.b;
-    *c = r.c;
+    answers::numbers_of(write_events(book, plan, room)).tell(number, a, b, c);
 }

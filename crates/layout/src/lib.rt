@@ -6,23 +6,34 @@
 ghost use Rattle.std.specs.Prelude.{◌≡◌, ◌+◌, ◌*◌, ◌<◌, ◌≤◌, ◌^◌, length};
 ghost use Rattle.answers.specs.Numbers.{numbers_of};
 ghost use Rattle.words.specs.Words.{word};
-ghost use Rattle.layout.specs.Layout.{fifth_width, fifth_most, fewest, most, width, count, offset, ending, begins, header_wrong, record_at, starts, unused, owner};
+ghost use Rattle.layout.specs.Layout.{fifth_width, fifth_most, width, count, offset, ending, begins, header_wrong, record_at, starts, unused, owner};
 ghost use Rattle.layout.specs.Fault.{first_header, layout_fault};
 ghost use Rattle.layout.specs.Owner.{Cursor};
 
-use answers::Answer;
+use answers::{Answer, Done, Refusal};
 use words::number_at;
 
-// Of each table the least count, the greatest, and the words of a record.
+// Of each table the least count, the greatest, and the words of a record: columns, as the definitions have them. A row of named
+// fields for each table says no more, in thirty lines.
 const FEWEST: [usize; 6] = [1, 1, 0, 0, 0, 0];
 
 const MOST: [usize; 6] = [16, 512, 64, 1024, 2048, 2048];
 
 const WIDTHS: [usize; 6] = [2, 3, 4, 4, 2, 6];
 
-// ---- the header
+// A book, of edition 1, or a sheet, of edition 2: its words, and the edition. The edition is a number, and no enum: the definitions
+// and contracts speak of every e, and callers would have to show that theirs is one of the two.
+// A table is a number below 6, and no enum: the header has its words at 2 + 2t and 3 + 2t, and answer 4 tells it.
+#[derive(Clone, Copy)]
+pub struct Tables<'a> {
+    pub words: &'a [u32],
+    pub edition: usize,
+}
+
+// ---- widths and words
 
 // The words of a record of table 5: an atom in a book, a constraint in a sheet.
+#[tactic(auto, unfolding(crate::specs::Layout::fifth_width))]
 pub fn fifth_width(e: usize) -> usize
     ensures { (result ≡ fifth_width e) × (result < 8) }
 {
@@ -30,111 +41,11 @@ pub fn fifth_width(e: usize) -> usize
 }
 
 // How many records of table 5 an alternative has at most.
+#[tactic(auto, unfolding(crate::specs::Layout::fifth_most))]
 pub fn fifth_most(e: usize) -> usize
     ensures { result ≡ fifth_most e }
 {
     if e == 2 { 8 } else { 32 }
-}
-
-// The least count of table t.
-fn fewest_of(t: usize) -> usize
-    requires { t < 6 }
-    ensures { result ≡ fewest t }
-{
-    FEWEST[t]
-}
-
-// The greatest count of table t.
-fn most_of(t: usize) -> usize
-    requires { t < 6 }
-    ensures { result ≡ most t }
-{
-    MOST[t]
-}
-
-// The words of a record of table t.
-pub fn width_of(e: usize, t: usize) -> usize
-    requires { t < 6 }
-    ensures { (result ≡ width e t) × (result < 8) }
-{
-    if t == 5 {
-        return fifth_width(e);
-    }
-    WIDTHS[t]
-}
-
-// The count of table t, as the header has it.
-pub fn count_of(b: &[u32], t: usize) -> usize
-    requires { t < 6 }
-    ensures { (result ≡ count b.now t) × (result < 2 ^ 32) }
-{
-    number_at(b, 2 + 2 * t)
-}
-
-// The offset of table t, as the header has it.
-pub fn offset_of(b: &[u32], t: usize) -> usize
-    requires { t < 6 }
-    ensures { (result ≡ offset b.now t) × (result < 2 ^ 32) }
-{
-    number_at(b, 3 + 2 * t)
-}
-
-// Where table t ends.
-fn ending_of(b: &[u32], e: usize, t: usize) -> usize
-    requires { t < 6 }
-    ensures { result ≡ ending e b.now t }
-{
-    offset_of(b, t) + count_of(b, t) * width_of(e, t)
-}
-
-// Where table t has to begin.
-fn begins_of(b: &[u32], e: usize, t: usize) -> usize
-    requires { t < 6 }
-    ensures { result ≡ begins e b.now t }
-{
-    if t == 0 { 14 } else { ending_of(b, e, t - 1) }
-}
-
-// Whether header word k is wrong.
-fn header_wrong(b: &[u32], e: usize, k: usize) -> bool
-    requires { k < 14 }
-    ensures { result ≡ header_wrong e b.now k }
-{
-    let x = number_at(b, k);
-    if k == 0 {
-        return x != e;
-    }
-    if k == 1 {
-        return x != b.len();
-    }
-    let t = (k - 2) / 2;
-    if k % 2 == 0 {
-        return (x < fewest_of(t)) | (x > most_of(t));
-    }
-    x != begins_of(b, e, t)
-}
-
-// The first wrong header word, or 14.
-fn first_header(b: &[u32], e: usize) -> usize
-    ensures { result ≡ first_header e b.now }
-{
-    let mut k = 0;
-    while k < 14 {
-        if header_wrong(b, e, k) {
-            return k;
-        }
-        k += 1;
-    }
-    k
-}
-
-// ---- ranges
-
-// A word as a number.
-fn wide(x: u32) -> usize
-    ensures { (result ≡ x) × (result < 2 ^ 32) }
-{
-    x as usize
 }
 
 // The word at a place that lies in the book.
@@ -142,72 +53,180 @@ pub fn read(b: &[u32], at: usize) -> usize
     requires { at < length b.now }
     ensures { (result ≡ word b.now at) × (result < 2 ^ 32) }
 {
-    wide(b[at])
+    b[at] as usize
 }
 
-// Where the range at word j of the record at a place ends.
-fn range_end(b: &[u32], at: usize, j: usize) -> usize
-    requires { at + (j + 1) < length b.now }
-    ensures { result ≡ word b.now (at + j) + word b.now (at + (j + 1)) }
-{
-    read(b, at + j) + read(b, at + (j + 1))
-}
+impl<'a> Tables<'a> {
+    // ---- the header
 
-// Where the range at word j of record i of table t has to start: at 0, or where that of the record before ends. It is asked
-// for the count too, whose place is the table's end.
-pub fn starts_of(b: &[u32], e: usize, t: usize, j: usize, i: usize, at: usize) -> usize
-    requires { (t < 6) × (j + 2 ≤ width e t) × (at ≡ record_at e b.now t i) × (at ≤ length b.now) }
-    ensures { result ≡ starts e b.now t j i }
-{
-    if i == 0 {
-        return 0;
-    }
-    range_end(b, at - width_of(e, t), j)
-}
-
-// Whether the ranges at word j of table t do not use up the table `into`.
-pub fn unused_of(b: &[u32], e: usize, t: usize, j: usize, into: usize) -> bool
-    requires { (t < 6) × (j + 2 ≤ width e t) × (into < 6) × (ending e b.now t ≤ length b.now) }
-    ensures { result ≡ unused e b.now t j into }
-{
-    starts_of(b, e, t, j, count_of(b, t), ending_of(b, e, t)) != count_of(b, into)
-}
-
-// The record of table t in whose range at word j the number i lies, or the count. It lies in none before `from`, so that a
-// caller who goes through the numbers in order never looks back.
-pub fn owner_from(b: &[u32], e: usize, t: usize, j: usize, i: usize, from: usize) -> usize
-    requires { (t < 6) × (j + 2 ≤ width e t) × (ending e b.now t ≤ length b.now) × Cursor e b.now t j i from }
-    ensures { (result ≡ owner e b.now t j i) × (result < 2 ^ 32) }
-{
-    let n = count_of(b, t);
-    let base = offset_of(b, t);
-    let w = width_of(e, t);
-    let mut k = from;
-    while k < n {
-        if i < range_end(b, base + k * w, j) {
-            return k;
+    // The words of a record of table t.
+    pub fn width_of(self, t: usize) -> usize
+        requires { t < 6 }
+        ensures { (result ≡ width self.entry.edition t) × (result < 8) }
+    {
+        if t == 5 {
+            fifth_width(self.edition)
+        } else {
+            WIDTHS[t]
         }
-        k += 1;
     }
-    k
+
+    // The count of table t, as the header has it.
+    pub fn count_of(self, t: usize) -> usize
+        requires { t < 6 }
+        ensures { (result ≡ count self.entry.words.now t) × (result < 2 ^ 32) }
+    {
+        number_at(self.words, 2 + 2 * t)
+    }
+
+    // The offset of table t, as the header has it.
+    pub fn offset_of(self, t: usize) -> usize
+        requires { t < 6 }
+        ensures { (result ≡ offset self.entry.words.now t) × (result < 2 ^ 32) }
+    {
+        number_at(self.words, 3 + 2 * t)
+    }
+
+    // Where table t ends.
+    fn ending_of(self, t: usize) -> usize
+        requires { t < 6 }
+        ensures { result ≡ ending self.entry.edition self.entry.words.now t }
+    {
+        self.offset_of(t) + self.count_of(t) * self.width_of(t)
+    }
+
+    // Where table t has to begin.
+    #[tactic(auto, unfolding(crate::specs::Layout::begins))]
+    fn begins_of(self, t: usize) -> usize
+        requires { t < 6 }
+        ensures { result ≡ begins self.entry.edition self.entry.words.now t }
+    {
+        if t == 0 { 14 } else { self.ending_of(t - 1) }
+    }
+
+    // Whether header word k is wrong.
+    #[tactic(auto, unfolding(crate::specs::Layout::header_wrong))]
+    fn header_wrong(self, k: usize) -> bool
+        requires { k < 14 }
+        ensures { result ≡ header_wrong self.entry.edition self.entry.words.now k }
+    {
+        let x = number_at(self.words, k);
+        if k == 0 {
+            return x != self.edition;
+        }
+        if k == 1 {
+            return x != self.words.len();
+        }
+        let t = (k - 2) / 2;
+        if k % 2 == 0 {
+            return x < FEWEST[t] || x > MOST[t];
+        }
+        x != self.begins_of(t)
+    }
+
+    // The first wrong header word, or 14.
+    fn first_header(self) -> usize
+        ensures { result ≡ first_header self.entry.edition self.entry.words.now }
+    {
+        for k in 0..14 {
+            if self.header_wrong(k) {
+                return k;
+            }
+        }
+        14
+    }
+
+    // ---- ranges
+
+    // Where the range at word j of the record at a place ends.
+    fn range_end(self, at: usize, j: usize) -> usize
+        requires { at + (j + 1) < length self.words.now }
+        ensures { result ≡ word self.entry.words.now (at + j) + word self.entry.words.now (at + (j + 1)) }
+    {
+        read(self.words, at + j) + read(self.words, at + (j + 1))
+    }
+
+    // Where the range at word j of record i of table t has to start: at 0, or where that of the record before ends. It is asked
+    // for the count too, whose place is the table's end.
+    #[tactic(auto, unfolding(crate::specs::Layout::starts))]
+    pub fn starts_of(self, t: usize, j: usize, i: usize, at: usize) -> usize
+        requires { (t < 6) × (j + 2 ≤ width self.edition t) × (at ≡ record_at self.edition self.words.now t i) × (at ≤ length self.words.now) }
+        ensures { result ≡ starts self.entry.edition self.entry.words.now t j i }
+    {
+        if i == 0 {
+            0
+        } else {
+            self.range_end(at - self.width_of(t), j)
+        }
+    }
+
+    // Whether the ranges at word j of table t do not use up the table `into`.
+    pub fn unused_of(self, t: usize, j: usize, into: usize) -> bool
+        requires { (t < 6) × (j + 2 ≤ width self.edition t) × (into < 6) × (ending self.edition self.words.now t ≤ length self.words.now) }
+        ensures { result ≡ unused self.entry.edition self.entry.words.now t j into }
+    {
+        self.starts_of(t, j, self.count_of(t), self.ending_of(t)) != self.count_of(into)
+    }
+
+    // The record of table t in whose range at word j the number i lies, or the count. It lies in none before `from`, so that a
+    // caller who goes through the numbers in order never looks back.
+    pub fn owner_from(self, t: usize, j: usize, i: usize, from: usize) -> usize
+        requires { (t < 6) × (j + 2 ≤ width self.edition t) × (ending self.edition self.words.now t ≤ length self.words.now) × Cursor self.edition self.words.now t j i from }
+        ensures { (result ≡ owner self.entry.edition self.entry.words.now t j i) × (result < 2 ^ 32) }
+    {
+        let n = self.count_of(t);
+        let base = self.offset_of(t);
+        let w = self.width_of(t);
+        for k in from..n {
+            if i < self.range_end(base + k * w, j) {
+                return k;
+            }
+        }
+        n
+    }
 }
 
-// ---- the answers
+// ---- from the words and the edition
+
+// The rule of alternative a, counted over the whole of table 3, or the number of rules where there is none: whatever the words are.
+pub fn rule_of(b: &[u32], e: usize, a: usize) -> usize
+    ensures { (result ≡ owner e b.now 2 2 a) × (result < 2 ^ 32) }
+{
+    let tables = Tables {
+        words: b,
+        edition: e,
+    };
+    let n = tables.count_of(2);
+    let base = tables.offset_of(2);
+    let w = tables.width_of(2);
+    for r in 0..n {
+        let at = base + r * w;
+        if a < number_at(b, at + 2) + number_at(b, at + 3) {
+            return r;
+        }
+    }
+    n
+}
 
 // What is wrong with the layout of a book, if e is 1, or of a sheet, if e is 2: the first of answers 1 to 3 that fits, or no fault.
+#[tactic(auto, unfolding(answers::specs::Numbers::or_else, crate::specs::Fault::layout_fault, crate::specs::Fault::length_fault, crate::specs::Fault::header_fault, crate::specs::Fault::end_fault))]
 pub fn check(b: &[u32], e: usize) -> Answer
     ensures { numbers_of result ≡ layout_fault e b.now }
 {
+    let tables = Tables {
+        words: b,
+        edition: e,
+    };
     let n = b.len();
-    if (n < 14) | (n > 16384) {
-        return Answer::BookLength;
+    if n < 14 || n > 16384 {
+        return Err(Refusal::BookLength);
     }
-    let k = first_header(b, e);
+    let k = tables.first_header();
     if k < 14 {
-        return Answer::BookHeader { word: k as u32 };
+        return Err(Refusal::BookHeader { word: k as u32 });
     }
-    if ending_of(b, e, 5) != n {
-        return Answer::BookEnd;
+    if tables.ending_of(5) != n {
+        return Err(Refusal::BookEnd);
     }
-    Answer::Done { a: 0, b: 0 }
+    Ok(Done { a: 0, b: 0 })
 }

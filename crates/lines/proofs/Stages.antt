@@ -3,16 +3,16 @@
 use mathlib.Core.Path.{◌≡◌}
 use mathlib.Core.Bool.{true, false, ◌||◌}
 use mathlib.Core.List.{List}
-use Prim.Native.Nat.{ℕ, ◌+◌, ◌*◌, ◌^◌, ◌≤◌, ◌<◌}
+use Prim.Native.Nat.{ℕ, ◌+◌, ◌*◌, ◌≤◌, ◌<◌}
 use native.Mathlib.Omega.{arith}
 use lib.Dec.{ltb}
 use lib.ListN.{length}
-use borrow.Author.Tests.{ltb-false, eqb-true, lt-ltb, le-ltb, eq-eqb, ne_eqb}
+use borrow.Author.Tests.{eqb-true, lt-ltb, le-ltb, eq-eqb, ne_eqb}
 use Rattle.answers.specs.Numbers.{numbers, no_fault, or_else}
 use Rattle.answers.proofs.Stages.{stages, stage, held}
-use Rattle.words.proofs.Least.{none_below}
+use Rattle.words.specs.Least.{Clear}
+use Rattle.words.proofs.Least.{least_at, least-end, none_below}
 use Rattle.layout.specs.Layout.{count}
-use Rattle.layout.proofs.Tests.{or_right}
 use Rattle.lines.specs.Lines.{line_count, token_width, line_place}
 use Rattle.lines.specs.Fault.{length_fault, sum_before, head_wrong, first_head, head_fault, end_fault, lines_fault}
 use Rattle.lines.proofs.Head.{head_good, line_inside}
@@ -23,26 +23,25 @@ module _ (b p : List ℕ) (start : ℕ) (begins : start ≡ 3 + 2 * count b 0) w
   unfolding lines_fault length_fault or_else
   fault-length h = rw (← begins, h)
 
-  module _ (long : (ltb (length p) start || ltb 16384 (length p)) ≡ false) (k : ℕ) (head : k ≡ first_head b p) where
-    pub fault-head : k < start → numbers 6 k 0 ≡ lines_fault b p
+  module _ (long : (ltb (length p) start || ltb 16384 (length p)) ≡ false) where
+    pub fault-head : (k : ℕ) → Clear (head_wrong b p) k → k < start → head_wrong b p k ≡ true → numbers 6 k 0 ≡ lines_fault b p
     unfolding lines_fault length_fault head_fault or_else
-    fault-head l = rw (← head, ← begins, long, lt-ltb k start l)
+    fault-head k h l e =
+        let head : k ≡ first_head b p = least_at _ _ k h (omega arith) e in
+        rw (← head, ← begins, long, lt-ltb k start l)
 
-    -- a word before the tokens has a small number
-    pub head_small : k < start → k < 2 ^ 32
-    head_small l =
-        let right = (or_right (ltb (length p) start) (ltb 16384 (length p))).0 long in
-        omega (arith, ltb-false (length p) start right.0, ltb-false 16384 (length p) right.1)
+    -- no word before the tokens is wrong, and `taken` is how many words the tokens take
+    module _ (clear : Clear (head_wrong b p) start) (taken : ℕ) (ends : taken ≡ token_width p * sum_before p (count b 0)) where
+      none : start ≡ first_head b p
+      none = least-end _ _ start clear (omega arith) (omega arith)
 
-    -- `taken` is how many words the tokens take
-    module _ (l : start ≤ k) (taken : ℕ) (ends : taken ≡ token_width p * sum_before p (count b 0)) where
       pub fault-end : (start + taken ≡ length p → ⊥) → numbers 7 0 0 ≡ lines_fault b p
       unfolding lines_fault length_fault head_fault end_fault or_else
-      fault-end z = rw (← head, ← ends, ← begins, long, le-ltb k start l, ne_eqb (start + taken) (length p) z)
+      fault-end z = rw (← none, ← ends, ← begins, long, le-ltb start start (omega arith), ne_eqb (start + taken) (length p) z)
 
       pub no_fault_lem : start + taken ≡ length p → no_fault ≡ lines_fault b p
       unfolding lines_fault length_fault head_fault end_fault or_else
-      no_fault_lem z = rw (← head, ← ends, ← begins, long, le-ltb k start l, eq-eqb (start + taken) (length p) z)
+      no_fault_lem z = rw (← none, ← ends, ← begins, long, le-ltb start start (omega arith), eq-eqb (start + taken) (length p) z)
 
 -- where there is no fault, every line's tokens are inside the plan
 pub lines_inside : (b p : List ℕ) → (lines_fault b p).number ≡ 0 → (v : ℕ) → v < count b 0 → line_place p v + token_width p * line_count p v ≤ length p

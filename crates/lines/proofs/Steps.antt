@@ -8,8 +8,7 @@ use borrow.Author.Tests.{lt-ltb, le-ltb, le-leb, lt-leb}
 use Rattle.words.specs.Words.{word}
 use Rattle.words.proofs.Lists.{and-false}
 use Rattle.clock.specs.declared.Time.{Time}
-use Rattle.clock.specs.declared.Later.{Later}
-use Rattle.clock.specs.declared.Later.TheVariants.{At, Past}
+use Rattle.std.specs.Prelude.{Option, Some, None}
 use Rattle.clock.specs.Clock.{last_tick, at, later}
 use Rattle.clock.proofs.Laws.{case_past, case_at}
 use Rattle.lines.specs.declared.Position.{Position}
@@ -31,16 +30,16 @@ module _ (p : List ℕ) (q : Position) where
   no_words place w here wide h = simp (lt-leb (token_place p q + token_width p) (length p) (rw (← here, ← wide) h), and-false)
 
   -- the token's end, as the time type adds it
-  abbrev ending : Later
+  abbrev ending : Option Time
   ending = later last_tick q.start.tick (word p (token_place p q + 1))
 
-  pub no_time : ending ≡ Past → NoMore q ≡ step_of p q
+  pub no_time : ending ≡ None → NoMore q ≡ step_of p q
   unfolding step_of names later
   no_time h = simp (case_past (leb (token_end p q) last_tick) (at (token_end p q)) h, and-false)
 
   pub next-token : (place w x job : ℕ) (end : Time) → place ≡ token_place p q → w ≡ token_width p
       → q.line < word p 2 → q.token < line_count p q.line
-      → place + w ≤ length p → ending ≡ At end → x ≡ word p (token_place p q) → job ≡ job_at p (token_place p q)
+      → place + w ≤ length p → ending ≡ Some end → x ≡ word p (token_place p q) → job ≡ job_at p (token_place p q)
       → Handed (record { value = x; start = q.start; end = end; job = job })
       (record { line = q.line; token = q.token + 1; start = end }) ≡ step_of p q
   unfolding step_of names later

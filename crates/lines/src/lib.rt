@@ -5,12 +5,12 @@ ghost use Rattle.std.specs.Prelude.{◌≡◌, ◌*◌, ◌≤◌, ◌<◌, ◌^
 ghost use Rattle.answers.specs.Numbers.{numbers_of};
 ghost use Rattle.clock.specs.Clock.{no_limit};
 ghost use Rattle.lines.specs.Lines.{token_width, job_at, line_place, line_of};
-ghost use Rattle.lines.specs.Ends.{line_end, plan_end, first_apart, ends_fault};
-ghost use Rattle.lines.specs.Fault.{sum_before, head_wrong, first_head, lines_fault};
+ghost use Rattle.lines.specs.Ends.{line_end, plan_end, ends_fault};
+ghost use Rattle.lines.specs.Fault.{sum_before, head_wrong, lines_fault};
 ghost use Rattle.lines.specs.Walk.{position, step_of};
 
-use answers::Answer;
-use clock::{Later, Time};
+use answers::{Answer, Done, Refusal};
+use clock::Time;
 
 // A token of a timeline: its value, when it starts and ends, and its job.
 #[derive(Clone, Copy)]
@@ -29,7 +29,8 @@ pub struct Position {
     pub start: Time,
 }
 
-// What a step gives: the token and the next position, or the position back.
+// What a step gives: the token and the next position, or the position back. It is no Result: the end of a line is no error, and
+// `step_of` gives the position back there.
 #[derive(Clone, Copy)]
 pub enum Step {
     Handed(Token, Position),
@@ -37,13 +38,11 @@ pub enum Step {
 }
 
 // How many words a token of the plan has.
+#[tactic(auto, unfolding(crate::specs::Lines::token_width))]
 pub fn token_width(plan: &[u32]) -> usize
     ensures { (result ≡ token_width plan.now) × (2 ≤ result) × (result ≤ 3) }
 {
-    if words::word_at(plan, 0) == 2 {
-        return 3;
-    }
-    2
+    if words::word_at(plan, 0) == 2 { 3 } else { 2 }
 }
 
 // How many words so many tokens have.
@@ -55,15 +54,17 @@ pub fn words_of(width: usize, tokens: usize) -> usize
 }
 
 // The job of the token at a place.
+#[tactic(auto, unfolding(crate::specs::Lines::job_at))]
 pub fn job_at(plan: &[u32], place: usize) -> u32
     requires { place < 2 ^ 60 }
     ensures { result ≡ job_at plan.now place }
 {
     let edition = words::word_at(plan, 0);
     if edition == 2 {
-        return words::word_at(plan, place + 2);
+        words::word_at(plan, place + 2)
+    } else {
+        0
     }
-    0
 }
 
 // Where the tokens of line v stand.
@@ -78,6 +79,7 @@ pub fn line_place(plan: &[u32], v: usize) -> usize
 }
 
 // What the first token of line v has to be: the running sum of the counts before it.
+#[tactic(auto, unfolding(crate::specs::Fault::sum_before))]
 fn sum_before(plan: &[u32], v: usize) -> usize
     requires { v < 2 ^ 40 }
     ensures { (result ≡ sum_before plan.now v) × (result < 2 ^ 33) }
@@ -91,39 +93,19 @@ fn sum_before(plan: &[u32], v: usize) -> usize
 }
 
 // Whether word k before the tokens is wrong.
+#[tactic(auto, unfolding(crate::specs::Fault::head_wrong))]
 fn head_wrong(book: &[u32], plan: &[u32], k: usize) -> bool
     requires { k < 2 ^ 40 }
     ensures { result ≡ head_wrong book.now plan.now k }
 {
     let x = words::number_at(plan, k);
-    if k == 0 {
-        return (x != 1) & (x != 2);
+    match k {
+        0 => (x != 1) & (x != 2),
+        1 => x != plan.len(),
+        2 => x != words::number_at(book, 2),
+        _ if k % 2 == 1 => x != sum_before(plan, (k - 3) / 2),
+        _ => x > 512,
     }
-    if k == 1 {
-        return x != plan.len();
-    }
-    if k == 2 {
-        return x != words::number_at(book, 2);
-    }
-    if k % 2 == 1 {
-        return x != sum_before(plan, (k - 3) / 2);
-    }
-    x > 512
-}
-
-// The first wrong word before the tokens, or where the tokens begin.
-fn first_head(book: &[u32], plan: &[u32]) -> usize
-    ensures { result ≡ first_head book.now plan.now }
-{
-    let n = 3 + 2 * words::number_at(book, 2);
-    let mut k = 0;
-    while k < n {
-        if head_wrong(book, plan, k) {
-            return k;
-        }
-        k += 1;
-    }
-    k
 }
 
 // What is wrong with the plan up to its tokens, given the book: the first of answers 5 to 7 that fits, or no fault.
@@ -134,18 +116,19 @@ pub fn check(book: &[u32], plan: &[u32]) -> Answer
     let start = 3 + 2 * n;
     let length = plan.len();
     if (length < start) | (length > 16384) {
-        return Answer::PlanLength;
+        return Err(Refusal::PlanLength);
     }
-    let k = first_head(book, plan);
-    if k < start {
-        return Answer::PlanHeader { word: k as u32 };
+    for k in 0..start {
+        if head_wrong(book, plan, k) {
+            return Err(Refusal::PlanHeader { word: k as u32 });
+        }
     }
     let sum = sum_before(plan, n);
     let width = token_width(plan);
     if start + words_of(width, sum) != length {
-        return Answer::PlanEnd;
+        return Err(Refusal::PlanEnd);
     }
-    Answer::Done { a: 0, b: 0 }
+    Ok(Done { a: 0, b: 0 })
 }
 
 // When line v ends. The sum of a line's durations fits 64 bits, whatever the words are.
@@ -154,13 +137,12 @@ fn line_end(plan: &[u32], v: usize) -> u64
     ensures { result ≡ line_end (line_of plan.now v) }
 {
     let width = token_width(plan);
-    let mut left = words::word_at(plan, 4 + 2 * v);
-    let mut at = line_place(plan, v);
+    let tokens = words::number_at(plan, 4 + 2 * v);
+    let place = line_place(plan, v);
     let mut end: u64 = 0;
-    while left > 0 {
+    for j in 0..tokens {
+        let at = place + words_of(width, j);
         end += words::word_at(plan, at + 1) as u64;
-        at += width;
-        left -= 1;
     }
     end
 }
@@ -172,31 +154,18 @@ pub fn plan_end(plan: &[u32]) -> u64
     line_end(plan, 0)
 }
 
-// The first line that doesn't end with line 0, or how many lines there are.
-fn first_apart(book: &[u32], plan: &[u32]) -> u32
-    ensures { result ≡ first_apart book.now plan.now }
-{
-    let n = words::word_at(book, 2);
-    let end = line_end(plan, 0);
-    let mut v: u32 = 0;
-    while v < n {
-        if line_end(plan, v as usize) != end {
-            return v;
-        }
-        v += 1;
-    }
-    v
-}
-
 // What is wrong with the lines' ends: answer 18 for the first that doesn't end with line 0, or no fault.
 pub fn check_ends(book: &[u32], plan: &[u32]) -> Answer
     ensures { numbers_of result ≡ ends_fault book.now plan.now }
 {
-    let v = first_apart(book, plan);
-    if v < words::word_at(book, 2) {
-        return Answer::EndsApart { timeline: v };
+    let n = words::word_at(book, 2);
+    let end = line_end(plan, 0);
+    for v in 0..n {
+        if line_end(plan, v as usize) != end {
+            return Err(Refusal::EndsApart { timeline: v });
+        }
     }
-    Answer::Done { a: 0, b: 0 }
+    Ok(Done { a: 0, b: 0 })
 }
 
 impl Position {
@@ -245,8 +214,8 @@ impl Position {
             return Step::NoMore(self);
         }
         match start.plus(words::word_at(plan, at + 1)) {
-            Later::Past => Step::NoMore(self),
-            Later::At(end) => Step::Handed(
+            None => Step::NoMore(self),
+            Some(end) => Step::Handed(
                 Token {
                     value: words::word_at(plan, at),
                     start,

@@ -14,10 +14,11 @@ use Rattle.lines.specs.Ends.{plan_end}
 use Rattle.event_list.specs.Words.{event_words, list_words}
 use Rattle.event_list.specs.Plans.{line_tokens, plan_lines, list_of}
 use Rattle.event_list.specs.Sends.{Sends}
-use Rattle.event_list.proofs.Sends.{then}
+use Rattle.sink.specs.declared.Sink.{Sink}
+use Rattle.sink.specs.Sinks.{SendsTo}
 use Rattle.event_list.proofs.Timed.{line-end, plan_ticks_lem}
 use Rattle.moments.specs.State.{happens}
-use Rattle.sink.proofs.Sends.{Sending, sending_none, sending_more, sending_all, sends_as, sends_length}
+use Rattle.sink.proofs.Sends.{Sending, sending_none, sending_more, sending_all, sends_then, sends_as}
 use Rattle.listed.specs.Ready.{Ready}
 
 -- ---- the sweep, step by step
@@ -55,34 +56,32 @@ unfoldable pub rest_words : List ℕ → List Line → ℕ → List ℕ
 rest_words p ls n = flat_map (event_words (word p 0)) (sweep n ls)
 
 -- what was sent and counted, and what is left, is all
-pub record Sweeping (list before now : List ℕ) (from : ℕ) (b : Bool) (at : ℕ) (c : Bool) (p : List ℕ)
-    (all : List Line) (ticks : ℕ) (ls : List Line) (n : ℕ) (events : ℕ) : Type 0 where
-  pub so : Sending list before now from b at c (rest_words p ls n) (rest_words p all ticks)
+pub record Sweeping (before now : Sink) (p : List ℕ) (all : List Line) (ticks : ℕ) (ls : List Line) (n : ℕ) (events : ℕ) : Type 0 where
+  pub so : Sending before now (rest_words p ls n) (rest_words p all ticks)
   pub counted : events + length (sweep n ls) ≡ length (sweep ticks all)
 
-pub sweeping_none : (list l : List ℕ) (at : ℕ) (b : Bool) (p : List ℕ) (ls : List Line) (n : ℕ) → Sweeping list l l at b at b p ls n ls n 0
-sweeping_none list l at b p ls n = record { so = sending_none list l at b (rest_words p ls n); counted = omega arith }
+pub sweeping_none : (to : Sink) (p : List ℕ) (ls : List Line) (n : ℕ) → Sweeping to to p ls n ls (n - 0) 0
+sweeping_none to p ls n =
+    let all : n - 0 ≡ n = omega arith in
+    rw all (record { so = sending_none to (rest_words p ls n); counted = omega arith })
 
-pub sweeping_length : {list before now p : List ℕ} {all ls : List Line} {from at ticks n events : ℕ} {b c : Bool}
-    → Sweeping list before now from b at c p all ticks ls n events → length now ≡ length before
-sweeping_length h = sends_length h.so.so
-
-pub sweeping_step : {list before now after p : List ℕ} {all ls next : List Line} {from at k ticks n events m : ℕ} {b c d : Bool}
-    → Sweeping list before now from b at c p all ticks ls n events → 0 < n → m ≡ soonest n ls → (m ≡ 0 → ⊥) → next ≡ map (later m) ls
-    → Sends list now after at c k d (event_words (word p 0) (event m (by_line (happens false m) 0 ls)))
-    → Sweeping list before after from b k d p all ticks next (n - 1) (events + 1)
+pub sweeping_step : {before now after : Sink} {p : List ℕ} {all ls next : List Line} {ticks n events m : ℕ}
+    → Sweeping before now p all ticks ls (n - events) events → events < n → m ≡ soonest (n - events) ls → (m ≡ 0 → ⊥) → next ≡ map (later m) ls
+    → SendsTo now after (event_words (word p 0) (event m (by_line (happens false m) 0 ls)))
+    → Sweeping before after p all ticks next (n - (events + 1)) (events + 1)
 unfolding rest_words flat_map
 sweeping_step {p = p} {ls = ls} {next = next} {n = n} {events = events} {m = m} h some is z e q =
-    let step = sweep-step ls n m some is z ∙ ap (λ (l : List Line). event m (by_line (happens false m) 0 ls) ∷ sweep (n - 1) l) (sym e) in
+    let fewer : n - events - 1 ≡ n - (events + 1) = omega arith in
+    let step =
+    rw fewer at (sweep-step ls (n - events) m (omega arith) is z ∙ ap (λ (l : List Line). event m (by_line (happens false m) 0 ls) ∷ sweep (n - events - 1) l) (sym e)) in
     record {
       so = sending_more h.so (ap (flat_map (event_words (word p 0))) step) q;
       counted = omega (arith, h.counted, ap length step);
     }
 
 -- nothing is left
-pub sweeping_all : {list before now p : List ℕ} {all ls : List Line} {from at ticks n events : ℕ} {b c : Bool}
-    → Sweeping list before now from b at c p all ticks ls n events → sweep n ls ≡ []
-    → Sends list before now from b at c (rest_words p all ticks) × (events ≡ length (sweep ticks all))
+pub sweeping_all : {before now : Sink} {p : List ℕ} {all ls : List Line} {ticks n events : ℕ} → Sweeping before now p all ticks ls n events
+    → sweep n ls ≡ [] → SendsTo before now (rest_words p all ticks) × (events ≡ length (sweep ticks all))
 unfolding rest_words flat_map
 sweeping_all {p = p} h e =
     (sending_all h.so (ap (flat_map (event_words (word p 0))) e), omega (arith, h.counted, ap length e))
@@ -100,15 +99,14 @@ unfolding events_of happens
 events_some ls ticks e h = rw (← e, ne_eqb _ _ h)
 
 -- the first event, and the rest of them
-pub whole_sent : (p : List ℕ) {list l m n : List ℕ} {all ls : List Line} {a b c ticks : ℕ} {s t u : Bool}
-    → ls ≡ all → ticks ≡ plan_ticks all → (ticks ≡ 0 → ⊥)
-    → Sends list l m a s b t (event_words (word p 0) (event 0 (by_line (happens true 0) 0 ls)))
-    → Sends list m n b t c u (flat_map (event_words (word p 0)) (sweep ticks ls))
-    → Sends list l n a s c u (flat_map (event_words (word p 0)) (events_of all))
+pub whole_sent : (p : List ℕ) {s t u : Sink} {all ls : List Line} {ticks : ℕ} → ls ≡ all → ticks ≡ plan_ticks all → (ticks ≡ 0 → ⊥)
+    → SendsTo s t (event_words (word p 0) (event 0 (by_line (happens true 0) 0 ls)))
+    → SendsTo t u (flat_map (event_words (word p 0)) (sweep ticks ls))
+    → SendsTo s u (flat_map (event_words (word p 0)) (events_of all))
 unfolding flat_map
 whole_sent p {all = all} {ls = ls} {ticks = ticks} same e h first rest =
     let is = ap (λ (x : List Line). event 0 (by_line (happens true 0) 0 x) ∷ sweep ticks x) same ∙ sym (events_some all ticks e h) in
-    sends_as (ap (flat_map (event_words (word p 0))) is) (then first rest)
+    sends_as (ap (flat_map (event_words (word p 0))) is) (sends_then first rest)
 
 pub whole-counted : {all ls : List Line} {k ticks : ℕ} → ls ≡ all → ticks ≡ plan_ticks all → (ticks ≡ 0 → ⊥) → k ≡ length (sweep ticks ls)
     → k + 1 ≡ length (events_of all)
@@ -137,3 +135,7 @@ pub list_as : (p : List ℕ) (e words events : ℕ) → e ≡ word p 0
     → (e ∷ words ∷ events ∷ []) ++ flat_map (event_words (word p 0)) (events_of (plan_lines p)) ≡ list_of p
 unfolding list_of list_words
 list_as p e words events h k l = rw (h, k, l)
+
+-- what is left in the room that was lent
+pub sends_left : {list l m n xs : List ℕ} {a c : ℕ} {s u : Bool} → Sends list l m a s c u xs → n ≡ m → Sends list l n a s c u xs
+sends_left h e = rw e h

@@ -9,79 +9,52 @@ ghost use Rattle.event_list.specs.Words.{event_words};
 ghost use Rattle.event_list.specs.Plans.{plan_lines, list_of};
 ghost use Rattle.event_list.specs.Sends.{Sends};
 ghost use Rattle.moments.specs.State.{lines_left, AllSmall};
+ghost use Rattle.sink.specs.Sinks.{SendsTo};
 ghost use Rattle.listed.specs.Ready.{Ready, Sized};
 
-use moments::Left;
-use sink::Sent;
+use sink::{Sent, Sink};
+use sweep::Stand;
 
-// How far events were sent, whether all so far are the list's, and how many they are.
+// How long a list is: its words, which is the place behind them, and its events.
 #[derive(Clone, Copy)]
 pub struct Swept {
     pub at: usize,
-    pub same: bool,
     pub events: usize,
 }
 
-// Sends the events from here on, of n lines with at most so many ticks left.
-fn send_rest(
-    list: &[u32],
-    room: &mut [u32],
-    o: Sent,
-    plan: &[u32],
-    s: [Left; 16],
-    n: u32,
-    ticks: u32,
-) -> Swept
-    requires { (o.at < 2 ^ 53) × (n ≤ 16) × AllSmall s }
-    ensures { Sends list.now room.old room.new o.at o.same result.at result.same (flat_map (event_words (word plan.now 0)) (sweep ticks (lines_left plan.now s n 0))) × (result.events ≡ length (sweep ticks (lines_left plan.now s n 0))) × (result.events ≤ ticks) }
+// Sends the events from here on, of n lines with at most so many ticks left, and counts them.
+fn send_rest(to: &mut Sink<'_>, plan: &[u32], s: [Stand; 16], n: u32, ticks: u32) -> u32
+    requires { (to.old.sent.at < 2 ^ 53) × (n ≤ 16) × AllSmall s }
+    ensures { SendsTo to.old to.new (flat_map (event_words (word plan.now 0)) (sweep ticks (lines_left plan.now s n 0))) × (result ≡ length (sweep ticks (lines_left plan.now s n 0))) × (result ≤ ticks) }
 {
-    let mut at = o;
     let mut t = s;
-    let mut left = ticks;
-    let mut events: usize = 0;
-    while left > 0 {
+    for events in 0..ticks {
+        let left = ticks - events;
         let m = moments::soonest(t, n as usize, left);
         if m == 0 {
-            return Swept {
-                at: at.at,
-                same: at.same,
-                events,
-            };
+            return events;
         }
-        at = sending::send_event(list, room, at, plan, t, n, false, m);
+        sending::send_event(to, plan, t, n, false, m);
+        // by a name of its own: the check doesn't cover a call whose array goes right into `t`
         let next = moments::later(plan, t, n as usize, m);
         t = next;
-        left -= 1;
-        events += 1;
     }
-    Swept {
-        at: at.at,
-        same: at.same,
-        events,
-    }
+    ticks
 }
 
-// Sends all events of a plan of n lines.
-fn send_events(list: &[u32], room: &mut [u32], o: Sent, plan: &[u32], n: u32) -> Swept
-    requires { (o.at < 2 ^ 52) × Ready plan.now n }
-    ensures { Sends list.now room.old room.new o.at o.same result.at result.same (flat_map (event_words (word plan.now 0)) (events_of (plan_lines plan.now))) × (result.events ≡ length (events_of (plan_lines plan.now))) × (result.events < 2 ^ 32) }
+// Sends all events of a plan of n lines, and counts them.
+fn send_events(to: &mut Sink<'_>, plan: &[u32], n: u32) -> usize
+    requires { (to.old.sent.at < 2 ^ 52) × Ready plan.now n }
+    ensures { SendsTo to.old to.new (flat_map (event_words (word plan.now 0)) (events_of (plan_lines plan.now))) × (result ≡ length (events_of (plan_lines plan.now))) × (result < 2 ^ 32) }
 {
     let ticks = lines::plan_end(plan) as u32;
     if ticks == 0 {
-        return Swept {
-            at: o.at,
-            same: o.same,
-            events: 0,
-        };
+        return 0;
     }
     let s = moments::begin(plan, n as usize);
-    let first = sending::send_event(list, room, o, plan, s, n, true, 0);
-    let rest = send_rest(list, room, first, plan, s, n, ticks);
-    Swept {
-        at: rest.at,
-        same: rest.same,
-        events: rest.events + 1,
-    }
+    sending::send_event(to, plan, s, n, true, 0);
+    let rest = send_rest(to, plan, s, n, ticks);
+    rest as usize + 1
 }
 
 // The first pass: how many words the list has, and how many events.
@@ -91,7 +64,16 @@ pub fn size_of(plan: &[u32], n: u32) -> Swept
 {
     let list = [0u32; 1];
     let mut room = [0u32; 1];
-    send_events(&list, &mut room, Sent { at: 3, same: true }, plan, n)
+    let mut to = Sink {
+        list: &list,
+        room: &mut room,
+        sent: Sent { at: 3, same: true },
+    };
+    let events = send_events(&mut to, plan, n);
+    Swept {
+        at: to.sent.at,
+        events,
+    }
 }
 
 // The second pass: sends the list, whose size is known.
@@ -100,12 +82,14 @@ pub fn send_list(list: &[u32], room: &mut [u32], plan: &[u32], n: u32, size: Swe
     ensures { Sends list.now room.old room.new 0 true result.at result.same (list_of plan.now) }
 {
     let edition = words::word_at(plan, 0);
-    let a = sink::send(list, room, Sent { at: 0, same: true }, edition);
-    let b = sink::send(list, room, a, size.at as u32);
-    let c = sink::send(list, room, b, size.events as u32);
-    let r = send_events(list, room, c, plan, n);
-    Sent {
-        at: r.at,
-        same: r.same,
-    }
+    let mut to = Sink {
+        list,
+        room,
+        sent: Sent { at: 0, same: true },
+    };
+    to.send(edition);
+    to.send(size.at as u32);
+    to.send(size.events as u32);
+    send_events(&mut to, plan, n);
+    to.sent
 }

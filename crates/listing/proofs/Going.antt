@@ -2,7 +2,8 @@
 -- its laws follow the definitions' own recursion. Also: what is read run by run (`gather`), and runs that stop at a limit. Assumes nothing.
 use mathlib.Core.Path.{◌≡◌, refl, sym, ap, ◌∙◌}
 use mathlib.Core.Bool.{Bool, true, false}
-use Prim.Native.Nat.{ℕ, zero, suc, ◌+◌, ◌-◌, ◌≤◌, ◌<◌}
+use Prim.Native.Nat.{ℕ, zero, suc, ◌+◌, ◌-◌, ◌*◌, ◌≤◌, ◌<◌}
+use native.Mathlib.Nat.{mul-add}
 use native.Mathlib.Omega.{arith}
 use mathlib.Core.List.{List, [], ◌∷◌, ◌++◌}
 use lib.ListN.{length, get_or, take, drop, set, length-append, length-take, drop_of_length-le}
@@ -46,10 +47,6 @@ done {l₀} {all} {l} {rest} {at₀} {at} g e = record {
 -- there is room for what is left
 pub room : {l₀ all l rest : List ℕ} {at₀ at : ℕ} → Has l₀ at₀ all → Going l₀ at₀ all l at rest → Has l at rest
 room h g = record { fits = omega (arith, h.fits, g.next, g.long) }
-
--- and so for its first two words
-pub room_two : {l rest ys : List ℕ} {at x y : ℕ} → Has l at rest → rest ≡ x ∷ y ∷ ys → at + 2 ≤ length l
-room_two {ys = ys} h e = omega (arith, h.fits, ap length e)
 
 -- ---- runs that stop at the limit L
 
@@ -106,12 +103,16 @@ cut_one L n x h =
 
 -- ---- records that are read one behind another
 
+-- where record i + 1 stands, of records w long from o on
+pub next_place : (o w i : ℕ) → o + w * i + w ≡ o + w * (i + 1)
+next_place o w i = rw mul-add (omega arith)
+
 -- a loop at number i of n: one more, or none
-pub gather_more : (f : ℕ → List ℕ) (w n i at : ℕ) → i < n → gather f w (n - i) at ≡ f at ++ gather f w (n - (i + 1)) (at + w)
+pub gather_more : (f : ℕ → List ℕ) (w n i o : ℕ) → i < n → gather f w (n - i) (o + w * i) ≡ f (o + w * i) ++ gather f w (n - (i + 1)) (o + w * (i + 1))
 unfolding gather
-gather_more f w n i at h =
+gather_more f w n i o h =
     let e : n - i ≡ suc (n - (i + 1)) = omega arith in
-    rw e
+    rw (e, next_place o w i)
 
 pub gather_none : (f : ℕ → List ℕ) (w n i at : ℕ) → n ≤ i → gather f w (n - i) at ≡ []
 unfolding gather
@@ -139,15 +140,17 @@ pub drop-none : (l : List ℕ) (i : ℕ) → length l ≤ i → drop i l ≡ []
 drop-none l i h = drop_of_length-le l h
 
 -- at the loop's start
-pub gather-all : (f : ℕ → List ℕ) (w n at : ℕ) → gather f w n at ≡ gather f w (n - 0) at
-gather-all f w n at =
+pub gather-all : (f : ℕ → List ℕ) (w n o : ℕ) → gather f w n o ≡ gather f w (n - 0) (o + w * 0)
+gather-all f w n o =
     let e : n - 0 ≡ n = omega arith in
-    rw e
+    let p : o + w * 0 ≡ o = omega arith in
+    rw (e, p)
 
-pub run-all : {A : Type 0} (f : ℕ → A) (w n at : ℕ) → run f w n at ≡ run f w (n - 0) at
-run-all f w n at =
+pub run-all : {A : Type 0} (f : ℕ → A) (w n o : ℕ) → run f w n o ≡ run f w (n - 0) (o + w * 0)
+run-all f w n o =
     let e : n - 0 ≡ n = omega arith in
-    rw e
+    let p : o + w * 0 ≡ o = omega arith in
+    rw (e, p)
 
 -- words that were put from 0 on stand there
 pub front : {l l' ws : List ℕ} {n m : ℕ} → Wrote l l' 0 n ws → m ≡ n → n ≤ length l → take m l' ≡ ws
@@ -159,22 +162,22 @@ front {l} {l'} {ws} {n} {m} w q h =
 pub put_one : (l : List ℕ) (at x : ℕ) {y : ℕ} → x ≡ y → Wrote l (set l at x) at (at + 1) (y ∷ [])
 put_one l at x e = rw (← e) (record { same = refl; next = refl })
 
-pub put_two : (l : List ℕ) (at a b : ℕ) {x y : ℕ} → a ≡ x → b ≡ y → Wrote l (set (set l at a) (at + 1) b) at (at + 2) (x ∷ y ∷ [])
-put_two l at a b p q = rw (← p, ← q) (record { same = refl; next = refl })
-
 -- ---- the first of a run's records that passes a test, as a loop finds it: what is left of the search
 
-module _ {A : Type 0} (p : A → Bool) (f : ℕ → A) (w n : ℕ) where
-  pub seek_start : (at : ℕ) → first p (run f w n at) ≡ 0 + first p (run f w (n - 0) at)
-  seek_start at = rw (← run-all f w n at) (omega arith)
+module _ {A : Type 0} (p : A → Bool) (f : ℕ → A) (w n o : ℕ) where
+  pub seek_start : first p (run f w n o) ≡ 0 + first p (run f w (n - 0) (o + w * 0))
+  seek_start = rw (← run-all f w n o) (omega arith)
 
-  module _ (i at whole : ℕ) (h : whole ≡ i + first p (run f w (n - i) at)) where
-    pub seek_hit : i < n → p (f at) ≡ true → i ≡ whole
-    seek_hit l e = omega (arith, h, ap (first p) (run_more f w n i at l), first_hit p (f at) (run f w (n - (i + 1)) (at + w)) e)
+  module _ (i whole : ℕ) (h : whole ≡ i + first p (run f w (n - i) (o + w * i))) where
+    pub seek_hit : i < n → p (f (o + w * i)) ≡ true → i ≡ whole
+    seek_hit l e =
+        omega (arith, h, ap (first p) (run_more f w n i (o + w * i) l), first_hit p (f (o + w * i)) (run f w (n - (i + 1)) (o + w * i + w)) e)
 
-    pub seek_miss : i < n → p (f at) ≡ false → whole ≡ i + 1 + first p (run f w (n - (i + 1)) (at + w))
-    seek_miss l e = omega (arith, h, ap (first p) (run_more f w n i at l), first_miss p (f at) (run f w (n - (i + 1)) (at + w)) e)
+    pub seek_miss : i < n → p (f (o + w * i)) ≡ false → whole ≡ i + 1 + first p (run f w (n - (i + 1)) (o + w * (i + 1)))
+    seek_miss l e =
+        rw (← next_place o w i)
+        (omega (arith, h, ap (first p) (run_more f w n i (o + w * i) l), first_miss p (f (o + w * i)) (run f w (n - (i + 1)) (o + w * i + w)) e))
 
     pub seek_end : n ≤ i → i ≡ whole
     unfolding first
-    seek_end l = omega (arith, h, ap (first p) (run_none f w n i at l))
+    seek_end l = omega (arith, h, ap (first p) (run_none f w n i (o + w * i) l))

@@ -14,14 +14,14 @@ use Rattle.words.specs.Write.{Wrote}
 use Rattle.layout.specs.Layout.{count, offset}
 use Rattle.listing.specs.Listed.{Fits, RuleFits, sizes_from}
 use Rattle.listing.specs.Items.{all_items, alt_of, gather, items_at, items_from, rule_for, rule_items, rules_by, up_to}
-use Rattle.listing.proofs.Going.{gather-all, gather_more, run-all, run_more, run_none, seek_start}
+use Rattle.listing.proofs.Going.{gather-all, gather_more, next_place, run-all, run_more, run_none, seek_start}
 use Rattle.listing.specs.Expand.{too_many}
 
 -- one alternative more, with the numbers as the code has them
-pub more_items : (s : List ℕ) (n i p base part k : ℕ) → i < n → base ≡ offset s 5 → part ≡ word s (p + 2) → k ≡ word s (p + 3)
-    → gather (items_at s) 4 (n - i) p ≡ items_from s k (base + 3 * part) p 16384 0 ++ gather (items_at s) 4 (n - (i + 1)) (p + 4)
+pub more_items : (s : List ℕ) (n i o base part k : ℕ) → i < n → base ≡ offset s 5 → part ≡ word s (o + 4 * i + 2) → k ≡ word s (o + 4 * i + 3)
+    → gather (items_at s) 4 (n - i) (o + 4 * i) ≡ items_from s k (base + 3 * part) (o + 4 * i) 16384 0 ++ gather (items_at s) 4 (n - (i + 1)) (o + 4 * (i + 1))
 unfolding items_at
-more_items s n i p base part k l hb hp hk = rw (hb, hp, hk) (gather_more (items_at s) 4 n i p l)
+more_items s n i o base part k l hb hp hk = rw (hb, hp, hk) (gather_more (items_at s) 4 n i o l)
 
 -- the same of a rule
 pub rule_items_lem : (s : List ℕ) (q base part k : ℕ) → base ≡ offset s 3 → part ≡ word s (q + 2) → k ≡ word s (q + 3)
@@ -55,23 +55,23 @@ module _ (s : List ℕ) (q : ℕ) where
   unfolding too_many
   not_many h = le-ltb 64 (length (rule_for s q).alternatives) (omega (arith, long))
 
--- what list_rules starts with, goes on with and ends with; n is the local that holds the number of rules, and q the place of the first
-module _ (s : List ℕ) (n q : ℕ) (hn : n ≡ count s 2) (hq : q ≡ offset s 2) where
-  pub items_start : all_items s ≡ gather (rule_items s) 4 (n - 0) q
+-- what list_rules starts with, goes on with and ends with; n is the local that holds the number of rules, and o the place of the first
+module _ (s : List ℕ) (n o : ℕ) (hn : n ≡ count s 2) (ho : o ≡ offset s 2) where
+  pub items_start : all_items s ≡ gather (rule_items s) 4 (n - 0) (o + 4 * 0)
   unfolding all_items
-  items_start = rw (hn, hq) (gather-all (rule_items s) 4 (count s 2) (offset s 2))
+  items_start = rw (hn, ho) (gather-all (rule_items s) 4 (count s 2) (offset s 2))
 
-  pub sizes-start : sizes_from s (count s 2) (offset s 2) ≡ sizes_from s (n - 0) q
+  pub sizes-start : sizes_from s (count s 2) (offset s 2) ≡ sizes_from s (n - 0) (o + 4 * 0)
   unfolding sizes_from
-  sizes-start = rw (hn, hq) (run-all (λ (k : ℕ). length (rule_items s k)) 4 (count s 2) (offset s 2))
+  sizes-start = rw (hn, ho) (run-all (λ (k : ℕ). length (rule_items s k)) 4 (count s 2) (offset s 2))
 
-  pub rules_start : first too_many (rules_by s) ≡ 0 + first too_many (run (rule_for s) 4 (n - 0) q)
+  pub rules_start : first too_many (rules_by s) ≡ 0 + first too_many (run (rule_for s) 4 (n - 0) (o + 4 * 0))
   unfolding rules_by
-  rules_start = rw (hn, hq) (seek_start too_many (rule_for s) 4 (count s 2) (offset s 2))
+  rules_start = rw (hn, ho) (seek_start too_many (rule_for s) 4 (count s 2) (offset s 2))
 
-pub sizes_more : (s : List ℕ) (n i q : ℕ) → i < n → sizes_from s (n - i) q ≡ length (rule_items s q) ∷ sizes_from s (n - (i + 1)) (q + 4)
+pub sizes_more : (s : List ℕ) (n i o : ℕ) → i < n → sizes_from s (n - i) (o + 4 * i) ≡ length (rule_items s (o + 4 * i)) ∷ sizes_from s (n - (i + 1)) (o + 4 * (i + 1))
 unfolding sizes_from
-sizes_more s n i q l = run_more (λ (k : ℕ). length (rule_items s k)) 4 n i q l
+sizes_more s n i o l = rw (← next_place o 4 i) (run_more (λ (k : ℕ). length (rule_items s k)) 4 n i (o + 4 * i) l)
 
 pub sizes-none : (s : List ℕ) (n i q : ℕ) → n ≤ i → sizes_from s (n - i) q ≡ []
 unfolding sizes_from
@@ -80,10 +80,11 @@ sizes-none s n i q l = run_none (λ (k : ℕ). length (rule_items s k)) 4 n i q 
 -- a rule's numbers as the code has them
 module _ (s : List ℕ) (q base part k : ℕ) (hb : base ≡ offset s 3) (hp : part ≡ word s (q + 2)) (hk : k ≡ word s (q + 3)) where
   -- its alternatives lie within, and have few constraints
-  pub fits_at : (i : ℕ) → Fits s → i < count s 2 → q ≡ offset s 2 + i * 4
+  pub fits_at : (i : ℕ) → Fits s → i < count s 2 → q ≡ offset s 2 + 4 * i
       → (base + 4 * part + 4 * k ≤ 16384) × ((j : ℕ) → j < k → word s (base + 4 * part + 4 * j + 3) ≤ 8)
   fits_at i f l e =
-      let g : RuleFits s q = rw e (f.rules i l) in
+      let at : q ≡ offset s 2 + i * 4 = omega arith in
+      let g : RuleFits s q = rw at (f.rules i l) in
       (omega (arith, g.inside), rw (hb, hp, hk) g.asks)
 
   module _ {l l' : List ℕ} {n m : ℕ} (w : Wrote l l' n m (up_to (n + 65) n (gather (items_at s) 4 k (base + 4 * part)))) where

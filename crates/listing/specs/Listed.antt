@@ -1,5 +1,5 @@
 -- What the list of all items is, and what a sheet has to keep for it to be made. Assumes nothing.
-use Rattle.std.specs.Prelude.{◌≡◌, ℕ, ◌+◌, ◌*◌, ◌≤◌, ◌<◌, List, length, take}
+use Rattle.std.specs.Prelude.{◌≡◌, ℕ, ◌+◌, ◌*◌, ◌≤◌, ◌<◌, List, length, take, Result, Ok, Err}
 use Rattle.words.specs.Words.{word}
 use Rattle.words.specs.Runs.{run}
 use Rattle.words.specs.Least.{first}
@@ -21,7 +21,7 @@ pub record Fits (s : List ℕ) : Type 0 where
 unfoldable pub sizes_from : List ℕ → ℕ → ℕ → List ℕ
 sizes_from s n q = run (λ (k : ℕ). length (rule_items s k)) 4 n q
 
--- the first rule with too many, and where there is none, the list and the numbers
+-- the list of all items and the numbers of items of the rules
 pub record AllListed (s out numbers : List ℕ) (items : ℕ) : Type 0 where
   pub few : items ≤ 4096
   pub within : items ≤ length out
@@ -29,6 +29,7 @@ pub record AllListed (s out numbers : List ℕ) (items : ℕ) : Type 0 where
   pub list : take items out ≡ all_items s
   pub counts : take (count s 2) numbers ≡ sizes_from s (count s 2) (offset s 2)
 
-pub record ListedIs (s out numbers : List ℕ) (rule items : ℕ) : Type 0 where
-  pub found : rule ≡ first too_many (rules_by s)
-  pub all : count s 2 ≤ rule → AllListed s out numbers items
+-- how many items are listed, where no rule has too many; or else the first rule that has
+abbrev pub ListedIs : List ℕ → List ℕ → List ℕ → Result ℕ ℕ → Type 0
+ListedIs s out numbers (Ok items) = (count s 2 ≤ first too_many (rules_by s)) × AllListed s out numbers items
+ListedIs s out numbers (Err rule) = (rule ≡ first too_many (rules_by s)) × (rule < count s 2)

@@ -7,6 +7,9 @@ ghost use Rattle.words.specs.Write.{Wrote};
 ghost use Rattle.listing.specs.Items.{gather, up_to, items_from, items_at, Digits};
 ghost use Rattle.listing.specs.Listed.{Fits, ListedIs};
 
+// How many alternatives a rule of a book may have.
+const MOST: usize = 64;
+
 // Lists the choices of the k constraints that remain, the first of which stands at `at`, with relations from x on for that
 // one: an item for each, the last constraint turning fastest. `acc` has what was chosen before, and m is the worth of the
 // next digit. Stops at the limit. Answers how many items there are now.
@@ -65,47 +68,36 @@ fn list_alternatives(
 {
     let base = words::number_at(s, 13);
     let mut m = from;
-    let mut p = at;
-    let mut i = 0;
-    while i < n {
+    for i in 0..n {
+        let p = at + 4 * i;
         let part = words::number_at(s, p + 2);
         let k = words::number_at(s, p + 3);
         m = list_choices(s, k, base + 3 * part, p as u64, 16384, 0, limit, out, m);
-        p += 4;
-        i += 1;
     }
     m
 }
 
-// The first rule that would have over 64 alternatives, or the number of rules; and how many items are listed.
-#[derive(Clone, Copy)]
-pub struct Listed {
-    pub rule: usize,
-    pub items: usize,
-}
-
-// Lists the choices of all rules, and how many each rule has, up to the first rule that has too many.
-pub fn list_rules(s: &[u32], out: &mut [u64; 4097], numbers: &mut [u32; 64]) -> Listed
+// Lists the choices of all rules, and how many each rule has; answers how many items there are, or the first rule that would
+// have over 64 alternatives. The list is a lent array with its length beside it, since the library has no heap.
+pub fn list_rules(s: &[u32], out: &mut [u64; 4097], numbers: &mut [u32; 64]) -> Result<usize, usize>
     requires { Fits s.now × ((length out.old ≡ 4097) × (length numbers.old ≡ 64)) }
-    ensures { ListedIs s.now out.new numbers.new result.rule result.items }
+    ensures { ListedIs s.now out.new numbers.new result }
 {
     let rules = words::number_at(s, 6);
+    let table = words::number_at(s, 7);
     let base = words::number_at(s, 9);
-    let mut q = words::number_at(s, 7);
     let mut n = 0;
-    let mut i = 0;
-    while i < rules {
+    for i in 0..rules {
+        let q = table + 4 * i;
         let part = words::number_at(s, q + 2);
         let k = words::number_at(s, q + 3);
-        let m = list_alternatives(s, k, base + 4 * part, n + 65, out, n);
+        let m = list_alternatives(s, k, base + 4 * part, n + (MOST + 1), out, n);
         let added = m - n;
-        if added > 64 {
-            return Listed { rule: i, items: n };
+        if added > MOST {
+            return Err(i);
         }
         numbers[i] = added as u32;
         n = m;
-        q += 4;
-        i += 1;
     }
-    Listed { rule: i, items: n }
+    Ok(n)
 }

@@ -3,7 +3,7 @@
 use mathlib.Core.Path.{◌≡◌, refl, ap, ◌∙◌}
 use mathlib.Core.Logic.{◌⊎◌, inl, inr, ⊎_elim}
 use mathlib.Core.List.{List, [], ◌∷◌}
-use Prim.Native.Nat.{ℕ, zero, suc, ◌+◌, ◌-◌, ◌≤◌, ◌<◌}
+use Prim.Native.Nat.{ℕ, zero, suc, ◌+◌, ◌-◌, ◌*◌, ◌≤◌, ◌<◌}
 use native.Mathlib.Numerals.{sub-one}
 use native.Mathlib.Omega.{arith}
 use lib.ListN.{length, get_or}
@@ -14,7 +14,7 @@ use Rattle.lines.proofs.Width.{width_few}
 use Rattle.choice.specs.declared.Tokens.{Tokens}
 use Rattle.choice.specs.Exists.{Among}
 use Rattle.choice.proofs.Exists.{among_first, among_later}
-use Rattle.marks.specs.Marked.{Skipped, Sought}
+use Rattle.marks.specs.Marked.{Skipped, Here, Nowhere}
 
 -- ---- the tokens along a line
 
@@ -96,9 +96,18 @@ module _ (p : List ℕ) (w : Tokens) where
         small = omega (arith, s.small, hd);
       })
 
-  pub sought_here : (left at from d : ℕ) → d ≡ word p (at + 1) → Skipped p w left at from
-      → Sought p w (record { left = left; place = at; start = from; end = from + d })
-  sought_here left at from d hd s = record { skipped = s; here = λ _. ap (λ (z : ℕ). from + z) hd }
+  -- token i of them is
+  pub skipped_on : (n at i from d v : ℕ) → w.width ≡ token_width p → i < n → d ≡ word p (at + i * w.width + 1) → v ≡ word p (at + i * w.width) → (v ≡ w.value → ⊥)
+      → d < 4294967296 → Skipped p w (n - i) (at + i * w.width) from → Skipped p w (n - (i + 1)) (at + (i + 1) * w.width) (from + d)
+  skipped_on n at i from d v hw h hd hv f l s =
+      let left : (n - i) - 1 ≡ n - (i + 1) = omega arith in
+      let place : at + i * w.width + w.width ≡ at + (i + 1) * w.width = omega arith in
+      rw (← left, ← place) (skipped_next (n - i) (at + i * w.width) from d v hw (λ q. omega arith) hd hv f l s)
 
-  pub sought_none : (left at from : ℕ) → left ≡ 0 → Skipped p w left at from → Sought p w (record { left = 0; place = at; start = from; end = from })
-  sought_none left at from h s = record { skipped = rw h at s; here = λ f. absurd (f refl) }
+  pub sought_here : (left at from d : ℕ) → (left ≡ 0 → ⊥) → d ≡ word p (at + 1) → Skipped p w left at from
+      → Here p w (record { left = left; place = at; start = from; end = from + d })
+  sought_here left at from d some hd s = record { skipped = s; some = some; end = ap (λ (z : ℕ). from + z) hd }
+
+  pub sought_none : (left at from : ℕ) → left ≡ 0 → Skipped p w left at from → Nowhere p w
+  unfolding tokens_from
+  sought_none left at from h s = record { nowhere = λ x m q. among_none (rw h at (s.lost x m q)) }

@@ -26,10 +26,10 @@ use Rattle.choice.specs.Exists.{Among, no_name, chosen, choice_of}
 use Rattle.choice.specs.Asked.{asks_hold, triggered_in, tokens_of}
 use Rattle.choice.proofs.Laws.{put_first, put_second, put_else, put-long}
 use Rattle.choice.proofs.Exists.{choice_time}
-use Rattle.marks.specs.declared.Early.{Early}
-use Rattle.marks.specs.declared.Early.TheVariants.{Name}
+use Rattle.std.specs.Prelude.{Option, Some, None}
+use Rattle.marks.specs.declared.Seen.{Seen}
 use Rattle.marks.specs.Marked.{Advanced, next_of, Grown, Ahead, Told, Later, Choosing, Source, Mark, Marked, Never}
-use Rattle.marks.proofs.Lines.{among_none, tail_back, first-grow, first-passed}
+use Rattle.marks.proofs.Lines.{tail_back, first-grow, first-passed}
 use Rattle.marks.proofs.Choices.{choice-set, choice_more, total, total_falls, ahead_token, grown_tokens}
 
 pub later_same : (t : Token) → Later t t
@@ -38,7 +38,7 @@ later_same t = record { start = omega arith; end = omega arith }
 -- the tokens behind a mark, as they were read
 pub next-read : (b p : List ℕ) (a : Alternative) (k : ℕ) (c r : Choice) (v left q w s : ℕ) → v ≡ word b (a.name + 2 * (k - 1) + 1) → left ≡ token_time r 0 k
     → q ≡ token_time r 1 k → w ≡ token_width p → s ≡ token_time c 1 k
-    → record { value = v; tied = false; job = 0; width = w; count = left - 1; place = q + w; start = s } ≡ next_of b p a k c r
+    → record { value = v; job = None; width = w; count = left - 1; place = q + w; start = s } ≡ next_of b p a k c r
 next-read b p a k c r v left q w s hv hl hq hw hs = rw (hv, hl, hq, hw, hs)
 
 pub advanced_as : (p : List ℕ) (k : ℕ) (w w' : Tokens) (c r c' r' : Choice) (f : Bool) → w ≡ w' → Advanced p k w c r c' r' f → Advanced p k w' c r c' r' f
@@ -115,32 +115,32 @@ module _ (b p : List ℕ) (a : Alternative) (t : Token) where
 
   module _ (j k : ℕ) (w : Tokens) (c r c' r' : Choice) (f : Bool) (lj : j < a.names) (s : Source b p a t j w.count w.place w.start)
       (hv : w.value ≡ (name_at b (a.name + j * 2)).value) (g : Advanced p k w c r c' r' f) where
-    kept : (u : Token) → Later t u → (ts : List Token) → Choosing b p a u ts
-        → Among (get_or ts j nobody) (tokens_from p g.seen.left g.seen.place g.seen.start)
-    kept u l ts q = g.sought.skipped.lost (get_or ts j nobody) (s.from u l ts q) (chosen_value u ts q j lj ∙ sym hv)
-
     -- where none is found there is no choice
     sought_never : f ≡ false → Never b p a t
-    unfolding tokens_from
-    sought_never h = record { never = λ u l ts q. among_none (rw (g.none h) at (kept u l ts q)) }
+    sought_never h = record { never = λ u l ts q. (g.none h).nowhere (get_or ts j nobody) (s.from u l ts q) (chosen_value u ts q j lj ∙ sym hv) }
 
     -- else the one found is the mark
-    abbrev found : Token
-    found = token (word p g.seen.place) g.seen.start g.seen.end 0
+    module _ (h : f ≡ true) where
+      abbrev seen : Seen
+      seen = (g.some h).seen
 
-    found_mark : f ≡ true → Mark b p a t j found g.seen.left g.seen.place
-    found_mark h =
-        record {
-          some = g.some h;
-          head = rw (g.sought.here (g.some h));
-          source =
-              record {
-                from = kept;
-                line = λ x q. s.line x (g.sought.skipped.back x q);
-                room = omega (arith, g.sought.skipped.room, s.room);
-                small = omega (arith, g.sought.skipped.small, s.small);
-              };
-        }
+      abbrev found : Token
+      found = token (word p seen.place) seen.start seen.end 0
+
+      found_mark : Mark b p a t j found seen.left seen.place
+      found_mark =
+          let e = (g.some h).here in
+          record {
+            some = e.some;
+            head = rw e.end;
+            source =
+                record {
+                  from = λ u l ts q. e.skipped.lost (get_or ts j nobody) (s.from u l ts q) (chosen_value u ts q j lj ∙ sym hv);
+                  line = λ x q. s.line x (e.skipped.back x q);
+                  room = omega (arith, e.skipped.room, s.room);
+                  small = omega (arith, e.skipped.small, s.small);
+                };
+          }
 
   -- ---- the first marks
 
@@ -181,9 +181,10 @@ module _ (b p : List ℕ) (a : Alternative) (t : Token) where
     start-next old h =
         let s = line_source j w lj hw room small in
         let v = line_value j w hw in
-        let x = found j (j + 1) w c r c' r' f lj s v g in
-        marked_by j (j + 1) j c c' r r' (old.heads ++ (x ∷ [])) x g.seen.left g.seen.place old (simp length-append (omega (arith, old.size))) (omega arith) (omega arith)
-        (g.times h ∙ times x) (g.marks h) (at_last x) (same x) (found_mark j (j + 1) w c r c' r' f lj s v g h)
+        let x = found j (j + 1) w c r c' r' f lj s v g h in
+        let e = g.some h in
+        marked_by j (j + 1) j c c' r r' (old.heads ++ (x ∷ [])) x e.seen.left e.seen.place old (simp length-append (omega (arith, old.size))) (omega arith) (omega arith)
+        (e.times ∙ times x) e.marks (at_last x) (same x) (found_mark j (j + 1) w c r c' r' f lj s v g h)
       where
         times : (x : Token) → put c (j + 1) x.start.tick x.end.tick x.job ≡ choice_of last t (old.heads ++ (x ∷ []))
         times x = rw old.is (rw (← old.size) (sym (choice_more last t old.heads x (omega (arith, old.size, old.four)))))
@@ -223,19 +224,19 @@ module _ (b p : List ℕ) (a : Alternative) (t : Token) where
     choice_pass u ts f = f.pass
 
     -- the name that is told has a later token in every choice
-    choice_ahead : (x : ℕ) (o : Early) → Told c a.names o (asks_hold b a) → o ≡ Name x → (u : Token) → Later t u → (ts : List Token) → Choosing b p a u ts
+    choice_ahead : (x : ℕ) (o : Option ℕ) → Told c a.names o (asks_hold b a) → o ≡ Some x → (u : Token) → Later t u → (ts : List Token) → Choosing b p a u ts
         → ((get_or (t ∷ k.heads) x nobody).start.tick < (get_or (u ∷ ts) x nobody).start.tick) ⊎ ((get_or (t ∷ k.heads) x nobody).end.tick < (get_or (u ∷ ts) x nobody).end.tick)
     choice_ahead x o f h u g ts q =
         let z : Ahead c (choice_of last u ts) x = (f.behind x h).ahead (choice_of last u ts) (choice_grown u g ts q) (choice_pass u ts q) in
         ahead_token last t u k.heads ts x (omega (arith, k.size, k.four)) (omega (arith, chosen_size u ts q, k.four)) (rw k.is at z)
 
     -- it is the trigger token
-    pub raise_now : (x : ℕ) (o : Early) → x ≡ 0 → o ≡ Name x → Told c a.names o (asks_hold b a) → (ts : List Token) → Choosing b p a t ts → ⊥
+    pub raise_now : (x : ℕ) (o : Option ℕ) → x ≡ 0 → o ≡ Some x → Told c a.names o (asks_hold b a) → (ts : List Token) → Choosing b p a t ts → ⊥
     raise_now x o h q f ts g =
-        ⊎_elim (λ z. omega arith) (λ z. omega arith) (choice_ahead 0 o f (q ∙ ap (λ (y : ℕ). Name y) h) t (later_same t) ts g)
+        ⊎_elim (λ z. omega arith) (λ z. omega arith) (choice_ahead 0 o f (q ∙ ap (λ (y : ℕ). Some y) h) t (later_same t) ts g)
 
     -- it is name j
-    module _ (j x : ℕ) (o : Early) (hx : x ≡ j + 1) (ho : o ≡ Name x) (q : Told c a.names o (asks_hold b a)) (words : (i : ℕ) → word p i < 4294967296) where
+    module _ (j x : ℕ) (o : Option ℕ) (hx : x ≡ j + 1) (ho : o ≡ Some x) (q : Told c a.names o (asks_hold b a)) (words : (i : ℕ) → word p i < 4294967296) where
       abbrev next : Tokens
       next = next_of b p a x c r
 
@@ -290,9 +291,10 @@ module _ (b p : List ℕ) (a : Alternative) (t : Token) where
 
         pub raise_next : f ≡ true → Marked b p a t a.names c' r'
         raise_next h =
-            let y = found j x next c r c' r' f below next_source value g in
-            marked_by a.names a.names j c c' r r' (set k.heads j y) y g.seen.left g.seen.place k (simp length-set k.size) (omega arith) below
-            (g.times h ∙ times y) (g.marks h ∙ ap (λ (z : ℕ). put r z g.seen.left g.seen.place 0) hx)
+            let y = found j x next c r c' r' f below next_source value g h in
+            let e = g.some h in
+            marked_by a.names a.names j c c' r r' (set k.heads j y) y e.seen.left e.seen.place k (simp length-set k.size) (omega arith) below
+            (e.times ∙ times y) (e.marks ∙ ap (λ (z : ℕ). put r z e.seen.left e.seen.place 0) hx)
             (get_or-set_same k.heads j y nobody (omega (arith, k.size, below)))
             (λ i l ne. (l, get_or-set_other k.heads j i y nobody ne))
             (found_mark j x next c r c' r' f below next_source value g h)
@@ -302,5 +304,6 @@ module _ (b p : List ℕ) (a : Alternative) (t : Token) where
 
         pub raise_less : f ≡ true → total r' < total r
         raise_less h =
-            rw (g.marks h)
-            (total_falls r x g.seen.left g.seen.place 0 k.long (omega arith) (omega (arith, below, k.four)) (omega (arith, g.sought.skipped.fewer, mark_some)))
+            let e = g.some h in
+            rw e.marks
+            (total_falls r x e.seen.left e.seen.place 0 k.long (omega arith) (omega (arith, below, k.four)) (omega (arith, e.here.skipped.fewer, mark_some)))

@@ -1,28 +1,46 @@
 -- What a set of relations tells at the marks: if each relation of the set needs a later right token than the marked one, so does every choice;
 -- and likewise for the left. A relation's condition names pairs of ends; those that are to grow apart tell a side. Assumes nothing.
 use mathlib.Core.Path.{◌≡◌, refl, sym, ◌∙◌}
-use mathlib.Core.Bool.{Bool, true, false, ◌||◌, not, false≢true}
+use mathlib.Core.Bool.{Bool, true, false, ◌&&◌, ◌||◌, not, false≢true}
 use mathlib.Core.Logic.{◌⊎◌, inl, inr, ⊎_elim}
 use mathlib.Core.List.{List, [], ◌∷◌}
 use Prim.Native.Nat.{ℕ, zero, suc, ◌+◌, ◌≤◌, ◌<◌}
 use native.Mathlib.Omega.{arith}
 use lib.Dec.{leb, ltb, eqb}
-use lib.ListN.{length, get_or}
+use lib.ListN.{length, get_or, drop, drop_of_length-le}
+use lib.Seq.{drop-cons}
+use native.Mathlib.Numerals.{add-one}
 use borrow.Author.Tests.{ltb-true, ltb-false, leb-true, eqb-true}
 use Rattle.words.specs.Words.{word, in_set}
 use Rattle.words.specs.Least.{first}
+use Rattle.words.proofs.Laws.{first_word}
 use Rattle.book.specs.Rules.{constraint_at}
 use Rattle.allen.specs.Relation.{conditions, relation_of}
 use Rattle.choice.specs.Met.{Choice, token_time, time_of, constraint_holds}
 use Rattle.choice.specs.Asked.{ask_holds}
-use Rattle.marks.specs.declared.Early.{Early}
-use Rattle.marks.specs.declared.Early.TheVariants.{Name}
+use Rattle.std.specs.Prelude.{Option, Some}
 use Rattle.marks.specs.Marked.{needs_right, needs_left, all_need, Grown, Ahead, Told, whose, ask_at}
 use Rattle.marks.proofs.Sides.{both_true, told_name, ahead_whose, whose_few}
 
 or_one : (a b : Bool) → (a || b) ≡ true → (a ≡ true) ⊎ (b ≡ true)
 or_one true b h = inl refl
 or_one false b h = inr h
+
+-- whether those from number k on need it
+module _ (set k : ℕ) (ns : List Bool) where
+  from_here : k < length ns → all_need set k (drop k ns) ≡ ((not (in_set set k) || get_or ns k false) && all_need set (k + 1) (drop (k + 1) ns))
+  unfolding all_need
+  from_here h = rw (drop-cons ns k false h, add-one k)
+
+  pub need_next : (all r : Bool) → k < length ns → r ≡ in_set set k
+      → (all && all_need set k (drop k ns)) ≡ ((all && (not r || get_or ns k false)) && all_need set (k + 1) (drop (k + 1) ns))
+  need_next true r h q = rw q (from_here h)
+  need_next false r h q = refl
+
+  pub need_none : (all : Bool) → length ns ≤ k → (all && all_need set k (drop k ns)) ≡ all
+  unfolding all_need
+  need_none true h = rw (drop_of_length-le ns h)
+  need_none false h = refl
 
 -- what all of a set need, each of it needs
 each_needs : (set i : ℕ) (ns : List Bool) → all_need set i ns ≡ true → (k x : ℕ) → k < length ns → x ≡ i + k → in_set set x ≡ true → get_or ns k false ≡ true
@@ -152,17 +170,17 @@ module _ (s e s' e' S E S' E' : ℕ) (ls : s ≤ S) (le : e ≤ E) (ls' : s' ≤
 
 -- ---- the constraint at a place
 
-module _ (e : ℕ) (b : List ℕ) (c : Choice) (n k l r set : ℕ) (book : e ≡ 2) (hl : l ≡ word b k) (hr : r ≡ word b (k + 1)) (hs : set ≡ word b (k + 2)) where
+module _ (e : ℕ) (b : List ℕ) (c : Choice) (n k l r set : ℕ) (book : e ≡ 2) (hl : l ≡ word b (k + 0)) (hr : r ≡ word b (k + 1)) (hs : set ≡ word b (k + 2)) where
   holds : (d : Choice) → ask_at e b k d ≡ true → in_set set (relation_of (token_time d 0 l) (token_time d 1 l) (token_time d 0 r) (token_time d 1 r)) ≡ true
   unfolding ask_at ask_holds constraint_holds constraint_at
-  holds d w = rw (hl, hr, hs) (rw book at w)
+  holds d w = rw (hl, first_word b k, hr, hs) (rw book at w)
 
   ahead_token : (d : Choice) → Grown n c d → (x : ℕ) → (token_time c 0 x < token_time d 0 x) ⊎ (token_time c 1 x < token_time d 1 x) → Ahead c d (whose 0 x n)
   unfolding time_of whose
   ahead_token d g x o = ⊎_elim (λ q. ahead_whose n c d g 0 x (omega arith) q) (λ q. ahead_whose n c d g 1 x (omega arith) q) o
 
   module _ (sl el sr er : ℕ) (h0 : sl ≡ token_time c 0 l) (h1 : el ≡ token_time c 1 l) (h2 : sr ≡ token_time c 0 r) (h3 : er ≡ token_time c 1 r) (f : Bool) (y : ℕ) where
-    pub told_set_right : f ≡ all_need set 0 (needs_right sl el sr er) → f ≡ true → y ≡ whose 0 r n → Told c n (Name y) (ask_at e b k)
+    pub told_set_right : f ≡ all_need set 0 (needs_right sl el sr er) → f ≡ true → y ≡ whose 0 r n → Told c n (Some y) (ask_at e b k)
     told_set_right hf need hy =
         rw hy
         (told_name c n (ask_at e b k) (whose 0 r n)
@@ -174,7 +192,7 @@ module _ (e : ℕ) (b : List ℕ) (c : Choice) (n k l r set : ℕ) (book : e ≡
               (g.later 0 l (omega arith)) (g.later 1 l (omega arith)) (g.later 0 r (omega arith)) (g.later 1 r (omega arith)) set (holds d w) (rw (h0, h1, h2, h3) at (sym hf ∙ need)));
         }))
 
-    pub told-set-left : f ≡ all_need set 0 (needs_left sl el sr er) → f ≡ true → y ≡ whose 0 l n → Told c n (Name y) (ask_at e b k)
+    pub told-set-left : f ≡ all_need set 0 (needs_left sl el sr er) → f ≡ true → y ≡ whose 0 l n → Told c n (Some y) (ask_at e b k)
     told-set-left hf need hy =
         rw hy
         (told_name c n (ask_at e b k) (whose 0 l n)
@@ -187,5 +205,5 @@ module _ (e : ℕ) (b : List ℕ) (c : Choice) (n k l r set : ℕ) (book : e ≡
         }))
 
 -- an ask of a sheet
-pub told_edition : (e : ℕ) (b : List ℕ) (c : Choice) (n k : ℕ) (r : Early) → e ≡ 2 → Told c n r (ask_at 2 b k) → Told c n r (ask_at e b k)
+pub told_edition : (e : ℕ) (b : List ℕ) (c : Choice) (n k : ℕ) (r : Option ℕ) → e ≡ 2 → Told c n r (ask_at 2 b k) → Told c n r (ask_at e b k)
 told_edition e b c n k r h t = rw h t

@@ -3,10 +3,11 @@
 use mathlib.Core.Path.{◌≡◌, refl, sym, ap, ◌∙◌}
 use mathlib.Core.Bool.{Bool, true, false, ◌&&◌, ◌||◌, cond, false≢true}
 use mathlib.Core.List.{List}
-use Prim.Native.Nat.{ℕ, zero, suc, ◌+◌, ◌-◌, ◌≤◌, ◌<◌}
+use Prim.Native.Nat.{ℕ, zero, suc, ◌+◌, ◌-◌, ◌*◌, ◌≤◌, ◌<◌}
 use native.Mathlib.Omega.{arith}
 use lib.Dec.{leb, ltb, eqb}
 use borrow.Author.Tests.{ltb-false, leb-true, leb-false, ne_eqb}
+use Rattle.words.proofs.Laws.{first_word}
 use Rattle.words.specs.Words.{word}
 use Rattle.clock.specs.declared.Time.{Time}
 use Rattle.clock.specs.Clock.{at, no_limit, in_bounds}
@@ -16,8 +17,7 @@ use Rattle.choice.specs.declared.Alternative.{Alternative}
 use Rattle.choice.specs.Met.{Choice, token_time, time_of, bounds_hold, atom_holds}
 use Rattle.choice.specs.Asked.{ask_holds, all_hold, asks_hold}
 use Rattle.choice.proofs.Laws.{all-step}
-use Rattle.marks.specs.declared.Early.{Early}
-use Rattle.marks.specs.declared.Early.TheVariants.{Name, Nobody}
+use Rattle.std.specs.Prelude.{Option, Some, None}
 use Rattle.marks.specs.Marked.{Grown, Ahead, Behind, Told, whose, within, ask_at}
 
 pub both_true : (a b : Bool) → (a && b) ≡ true → (a ≡ true) × (b ≡ true)
@@ -35,15 +35,15 @@ one-false false b h q = absurd (false≢true q)
 -- ---- what is told
 
 -- a name's number, and 0 for nobody
-abbrev code : Early → ℕ
-code (Name x) = suc x
-code Nobody = 0
+abbrev code : Option ℕ → ℕ
+code (Some x) = suc x
+code None = 0
 
 module _ (c : Choice) (n : ℕ) (test : Choice → Bool) where
-  pub told-nobody : Told c n Nobody test
+  pub told-nobody : Told c n None test
   told-nobody = record { behind = λ x h. absurd (omega (arith, ap code h)) }
 
-  pub told_name : (y : ℕ) → Behind c n y test → Told c n (Name y) test
+  pub told_name : (y : ℕ) → Behind c n y test → Told c n (Some y) test
   told_name y f = record { behind = λ x h. let q : y ≡ x = omega (arith, ap code h) in rw q at f }
 
 -- ---- bounds
@@ -90,7 +90,7 @@ within-times i x j y lower upper d l = rw (ne_eqb i 4 (λ q. omega arith))
 module _ (c : Choice) (n i x j y lower upper : ℕ) (li : i ≤ 3) (lj : j ≤ 3) (left right : Time) (f : Bool) (hl : left ≡ at (time_of c i x))
     (hr : right ≡ at (time_of c j y)) (hf : f ≡ in_bounds no_limit left.tick right.tick lower no_limit) where
   -- right minus left is below lower: the right side is too early
-  pub told_right : (r : ℕ) → f ≡ false → r ≡ whose j y n → Told c n (Name r) (within i x j y lower upper)
+  pub told_right : (r : ℕ) → f ≡ false → r ≡ whose j y n → Told c n (Some r) (within i x j y lower upper)
   unfolding in_bounds
   told_right r nay q =
       rw q
@@ -109,7 +109,7 @@ module _ (c : Choice) (n i x j y lower upper : ℕ) (li : i ≤ 3) (lj : j ≤ 3
 
   -- it is above upper: the left side is
   pub told-left : (r : ℕ) (s : Bool) → s ≡ in_bounds no_limit left.tick right.tick lower upper → s ≡ false → f ≡ true → r ≡ whose i x n
-      → Told c n (Name r) (within i x j y lower upper)
+      → Told c n (Some r) (within i x j y lower upper)
   unfolding in_bounds
   told-left r s hs nay yea q =
       rw q
@@ -130,18 +130,18 @@ module _ (c : Choice) (n i x j y lower upper : ℕ) (li : i ≤ 3) (lj : j ≤ 3
 -- ---- the ask at a place, and all of them
 
 -- the test may be said otherwise
-told_same : (c : Choice) (n : ℕ) (r : Early) (f g : Choice → Bool) → ((d : Choice) → g d ≡ true → f d ≡ true) → Told c n r f → Told c n r g
+told_same : (c : Choice) (n : ℕ) (r : Option ℕ) (f g : Choice → Bool) → ((d : Choice) → g d ≡ true → f d ≡ true) → Told c n r f → Told c n r g
 told_same c n r f g h t =
     record { behind = λ x q. let k = t.behind x q in record { few = k.few; ahead = λ d s w. k.ahead d s (h d w) } }
 
 -- an atom's six words, as they were read
-pub told_atom : (e : ℕ) (b : List ℕ) (c : Choice) (n k i x j y lower upper : ℕ) (r : Early) → (e ≡ 2 → ⊥) → i ≡ word b k → x ≡ word b (k + 1) → j ≡ word b (k + 2)
+pub told_atom : (e : ℕ) (b : List ℕ) (c : Choice) (n k i x j y lower upper : ℕ) (r : Option ℕ) → (e ≡ 2 → ⊥) → i ≡ word b (k + 0) → x ≡ word b (k + 1) → j ≡ word b (k + 2)
     → y ≡ word b (k + 3) → lower ≡ word b (k + 4) → upper ≡ word b (k + 5) → Told c n r (within i x j y lower upper) → Told c n r (ask_at e b k)
 unfolding within ask_at ask_holds atom_at
 told_atom e b c n k i x j y lower upper r ne h0 h1 h2 h3 h4 h5 t = told_same c n r (within i x j y lower upper) (ask_at e b k) (λ d w. is d ∙ w) t
   where
     is : (d : Choice) → within i x j y lower upper d ≡ ask_at e b k d
-    is d = rw (ne_eqb e 2 ne, h0, h1, h2, h3, h4, h5)
+    is d = rw (ne_eqb e 2 ne, h0, first_word b k, h1, h2, h3, h4, h5)
 
 -- the asks that are left hold if all do
 pub record Rests (b : List ℕ) (a : Alternative) (asks place : ℕ) : Type 0 where
@@ -161,7 +161,20 @@ module _ (b : List ℕ) (a : Alternative) where
   pub rests_next : (asks place w : ℕ) → (asks ≡ 0 → ⊥) → w ≡ fifth_width a.edition → Rests b a asks place → Rests b a (asks - 1) (place + w)
   rests_next asks place w some hw f = record { on = λ d h. (split d asks place w some hw f h).1 }
 
-  pub told_here : (c : Choice) (n asks place w : ℕ) (r s : Early) → s ≡ r → (asks ≡ 0 → ⊥) → w ≡ fifth_width a.edition → Rests b a asks place
+  -- the asks from number i on
+  pub rests_first : (w : ℕ) → Rests b a (a.asks - 0) (a.ask + 0 * w)
+  rests_first w =
+      let all : a.asks - 0 ≡ a.asks = omega arith in
+      let place : a.ask + 0 * w ≡ a.ask = omega arith in
+      rw (all, place) rests_all
+
+  pub rests_after : (i w : ℕ) → i < a.asks → w ≡ fifth_width a.edition → Rests b a (a.asks - i) (a.ask + i * w) → Rests b a (a.asks - (i + 1)) (a.ask + (i + 1) * w)
+  rests_after i w l hw f =
+      let left : (a.asks - i) - 1 ≡ a.asks - (i + 1) = omega arith in
+      let place : a.ask + i * w + w ≡ a.ask + (i + 1) * w = omega arith in
+      rw (← left, ← place) (rests_next (a.asks - i) (a.ask + i * w) w (λ q. omega arith) hw f)
+
+  pub told_here : (c : Choice) (n asks place w : ℕ) (r s : Option ℕ) → s ≡ r → (asks ≡ 0 → ⊥) → w ≡ fifth_width a.edition → Rests b a asks place
       → Told c n s (ask_at a.edition b place) → Told c n r (asks_hold b a)
   told_here c n asks place w r s hs some hw f t =
       rw hs at (told_same c n s (ask_at a.edition b place) (asks_hold b a) (λ d h. (split d asks place w some hw f h).0) t)

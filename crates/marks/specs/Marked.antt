@@ -1,7 +1,7 @@
 -- What raising the marks cites. Each name has a mark, a token of its line: no choice has for it a token in front of the mark, for this
 -- trigger token or a later one. Start and end grow along a line, so the marked tokens are at most those of any choice; an ask that fails at
 -- the marks tells a side that is too early there, and if that side is a name's, its mark is moved on. Assumes nothing.
-use Rattle.std.specs.Prelude.{◌≡◌, Bool, true, false, ◌&&◌, ◌||◌, not, cond, List, [], ◌∷◌, ℕ, suc, ◌+◌, ◌-◌, ◌*◌, ◌^◌, ◌≤◌, ◌<◌, leb, ltb, length, get_or}
+use Rattle.std.specs.Prelude.{Option, Some, None, ◌≡◌, Bool, true, false, ◌&&◌, ◌||◌, not, cond, List, [], ◌∷◌, ℕ, suc, ◌+◌, ◌-◌, ◌*◌, ◌^◌, ◌≤◌, ◌<◌, leb, ltb, length, get_or}
 use Rattle.words.specs.Words.{word, in_set}
 use Rattle.words.specs.Runs.{run}
 use Rattle.book.specs.Rules.{name_at}
@@ -14,10 +14,9 @@ use Rattle.choice.specs.Met.{Choice, choice_size, nobody, put, token_time, end_t
 use Rattle.choice.specs.Exists.{Among, Placed, choice_of}
 use Rattle.choice.specs.Asked.{ask_holds, asks_hold, triggered_in}
 use Rattle.marks.specs.declared.Seen.{Seen}
-use Rattle.marks.specs.declared.Early.{Early}
 use Rattle.marks.specs.declared.Found.{Found}
-use Rattle.marks.specs.declared.Early.TheVariants.{Name}
-use Rattle.marks.specs.declared.Found.TheVariants.{Marks, NoneNow, NoneEver}
+use Rattle.marks.specs.declared.Found.TheVariants.{Open, NoneNow, NoneEver}
+use Rattle.marks.specs.declared.Lead.{Lead}
 
 -- ---- the next token of a value
 
@@ -29,27 +28,39 @@ pub record Skipped (p : List ℕ) (w : Tokens) (left at from : ℕ) : Type 0 whe
   pub room : at + 3 * left ≤ w.place + 3 * w.count
   pub small : from + 4294967296 * left ≤ w.start + 4294967296 * w.count
 
--- up to one of that value, from its start to its end, or to the end of the line
-pub record Sought (p : List ℕ) (w : Tokens) (s : Seen) : Type 0 where
+-- s is the first of that value, from its start to its end
+pub record Here (p : List ℕ) (w : Tokens) (s : Seen) : Type 0 where
   pub skipped : Skipped p w s.left s.place s.start
-  pub here : (s.left ≡ 0 → ⊥) → s.end ≡ s.start + word p (s.place + 1)
+  pub some : s.left ≡ 0 → ⊥
+  pub end : s.end ≡ s.start + word p (s.place + 1)
 
--- the token sought is put as name number k to the choice c, but for its job, and its tokens left and its place to r, unless there is none
-pub record Advanced (p : List ℕ) (k : ℕ) (w : Tokens) (c r c' r' : Choice) (found : Bool) : Type 0 where
+-- none of the tokens has that value
+pub record Nowhere (p : List ℕ) (w : Tokens) : Type 0 where
+  pub nowhere : (x : Token) → Among x (tokens_from p w.count w.place w.start) → x.value ≡ w.value → ⊥
+
+-- the first of that value, or none
+abbrev pub Sought : List ℕ → Tokens → Option Seen → Type 0
+Sought p w None = Nowhere p w
+Sought p w (Some s) = Here p w s
+
+-- the token sought is put as name number k to the choice c, but for its job, and its tokens left and its place to r
+pub record PutTo (p : List ℕ) (k : ℕ) (w : Tokens) (c r c' r' : Choice) : Type 0 where
   pub seen : Seen
-  pub sought : Sought p w seen
-  pub none : found ≡ false → seen.left ≡ 0
-  pub some : found ≡ true → (seen.left ≡ 0 → ⊥)
-  pub times : found ≡ true → c' ≡ put c k seen.start seen.end 0
-  pub marks : found ≡ true → r' ≡ put r k seen.left seen.place 0
+  pub here : Here p w seen
+  pub times : c' ≡ put c k seen.start seen.end 0
+  pub marks : r' ≡ put r k seen.left seen.place 0
+
+-- it is, unless there is none
+pub record Advanced (p : List ℕ) (k : ℕ) (w : Tokens) (c r c' r' : Choice) (found : Bool) : Type 0 where
+  pub none : found ≡ false → Nowhere p w
+  pub some : found ≡ true → PutTo p k w c r c' r'
 
 -- the tokens behind the mark of name number k, for its value
 abbrev pub next_of : List ℕ → List ℕ → Alternative → ℕ → Choice → Choice → Tokens
 next_of b p a k c r =
     record {
       value = word b (a.name + 2 * (k - 1) + 1);
-      tied = false;
-      job = 0;
+      job = None;
       width = token_width p;
       count = token_time r 0 k - 1;
       place = token_time r 1 k + token_width p;
@@ -76,8 +87,8 @@ pub record Behind (c : Choice) (n x : ℕ) (test : Choice → Bool) : Type 0 whe
   pub ahead : (d : Choice) → Grown n c d → test d ≡ true → Ahead c d x
 
 -- the name that is told is behind
-pub record Told (c : Choice) (n : ℕ) (r : Early) (test : Choice → Bool) : Type 0 where
-  pub behind : (x : ℕ) → r ≡ Name x → Behind c n x test
+pub record Told (c : Choice) (n : ℕ) (r : Option ℕ) (test : Choice → Bool) : Type 0 where
+  pub behind : (x : ℕ) → r ≡ Some x → Behind c n x test
 
 -- the number of the name that a term is of, and 0 for the trigger, for a time point, for the plan's end and past the n-th name
 unfoldable pub whose : ℕ → ℕ → ℕ → ℕ
@@ -176,12 +187,12 @@ pub record Never (b p : List ℕ) (a : Alternative) (t : Token) : Type 0 where
   pub never : (u : Token) → Later t u → (ts : List Token) → Choosing b p a u ts → ⊥
 
 -- the marks of all names, or no choice at all
-pub record Started (b p : List ℕ) (a : Alternative) (t : Token) (found : Bool) (c r : Choice) : Type 0 where
-  pub none : found ≡ false → Never b p a t
-  pub some : found ≡ true → Marked b p a t a.names c r
+abbrev pub Started : List ℕ → List ℕ → Alternative → Token → Option Lead → Type 0
+Started b p a t None = Never b p a t
+Started b p a t (Some m) = Marked b p a t a.names m.times m.rests
 
 -- what raising leaves: marks; marks, and no choice for the trigger token t; no choice any more
-abbrev pub Raised : List ℕ → List ℕ → Alternative → Token → Choice → Choice → Found → Type 0
-Raised b p a t c r Marks = Marked b p a t a.names c r
-Raised b p a t c r NoneNow = Marked b p a t a.names c r × ((ts : List Token) → Choosing b p a t ts → ⊥)
-Raised b p a t c r NoneEver = Never b p a t
+abbrev pub Raised : List ℕ → List ℕ → Alternative → Token → Found → Type 0
+Raised b p a t (Open m) = Marked b p a t a.names m.times m.rests
+Raised b p a t (NoneNow m) = Marked b p a t a.names m.times m.rests × ((ts : List Token) → Choosing b p a t ts → ⊥)
+Raised b p a t NoneEver = Never b p a t

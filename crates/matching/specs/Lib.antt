@@ -1,3 +1,4 @@
 -- The definitions that the contracts of `matching` cite.
 pub mod Search
+pub mod Searched
 pub mod Carried

@@ -1,6 +1,6 @@
 -- What the contracts of the search from the marks cite. The choice goes down by value, so that a token that was tried in vain leaves no
 -- trace. Assumes nothing.
-use Rattle.std.specs.Prelude.{◌≡◌, Bool, ◌&&◌, ◌||◌, not, List, ℕ, ◌+◌, ◌*◌, ◌^◌, ◌<◌, eqb, length, get_or}
+use Rattle.std.specs.Prelude.{Option, Some, None, ◌≡◌, Bool, true, ◌&&◌, List, ℕ, ◌+◌, ◌*◌, ◌^◌, ◌<◌, eqb, length, get_or}
 use Rattle.words.specs.Lists.{any}
 use Rattle.words.specs.Words.{word}
 use Rattle.book.specs.Rules.{name_at}
@@ -14,9 +14,14 @@ use Rattle.choice.specs.Exists.{Among, Serves, choice_of}
 use Rattle.choice.specs.Asked.{placeable, Tied}
 use Rattle.marks.specs.Marked.{Source}
 
+-- a token of this job is asked for: any, or one of the job that the name is tied to
+abbrev pub of_job : Option ℕ → ℕ → Bool
+of_job None job = true
+of_job (Some asked) job = eqb job asked
+
 -- the token at a place has the value that is asked for, and "the tokens of other jobs" are passed over
 unfoldable pub wanted : List ℕ → Tokens → ℕ → Bool
-wanted p w place = eqb (word p place) w.value && (not w.tied || eqb (job_at p place) w.job)
+wanted p w place = eqb (word p place) w.value && of_job w.job (job_at p place)
 
 -- the token t, of value v, given to the name after the first j, lets the n names after it be placed
 unfoldable pub serving : List ℕ → List ℕ → Alternative → ℕ → ℕ → Choice → ℕ → Token → Bool
@@ -48,5 +53,5 @@ pub record Along (b p : List ℕ) (a : Alternative) (j : ℕ) (w : Tokens) : Typ
 
 -- v is the tokens w, with the job that the name after the first j is tied to
 pub record Tying (b : List ℕ) (a : Alternative) (c : Choice) (j : ℕ) (w v : Tokens) : Type 0 where
-  pub same : v ≡ record { value = w.value; tied = v.tied; job = v.job; width = w.width; count = w.count; place = w.place; start = w.start }
-  pub tie : Tied b a c (j + 1) v.tied v.job
+  pub same : v ≡ record { value = w.value; job = v.job; width = w.width; count = w.count; place = w.place; start = w.start }
+  pub tie : Tied b a c (j + 1) v.job

@@ -1,71 +1,24 @@
-// Whether an alternative of a rule can be met for one trigger token: the search, from the marks on.
+// Whether an alternative of a rule can be met for one trigger token: the search, from the marks on. The edition e stays a number: `met_at` is
+// said of every e.
 #![tactic(auto)]
 
-ghost use Rattle.std.specs.Prelude.{◌≡◌, true, false, ◌+◌, ◌*◌, ◌<◌, ◌≤◌, ◌^◌, length};
+ghost use Rattle.std.specs.Prelude.{◌≡◌, Some, None, ◌+◌, ◌*◌, ◌<◌, ◌≤◌, ◌^◌, get_or, set};
 ghost use Rattle.layout.specs.Layout.{offset};
 ghost use Rattle.lines.specs.Lines.{line_of};
 ghost use Rattle.lines.specs.Ends.{plan_end};
 ghost use Rattle.choice.specs.Met.{put};
-ghost use Rattle.choice.specs.Asked.{placeable, Tied, met_at};
-ghost use Rattle.marks.specs.Marked.{Marked, Source};
-ghost use Rattle.matching.specs.Search.{wanted, token_for, Leads, Begun, Along, Tying};
-ghost use Rattle.matching.specs.Carried.{row_size, slot_size, row, Storing, Keeping, Slot, Carry, Settled, Carried};
+ghost use Rattle.choice.specs.Asked.{Tied, met_at};
+ghost use Rattle.marks.specs.Marked.{Raised};
+ghost use Rattle.matching.specs.Search.{wanted, Tying};
+ghost use Rattle.matching.specs.Carried.{handed, Carry, Settled, Keeping, Carried};
 
-use choice::{Alternative, Tokens, put, set_time, time_at, token_time, triggered};
+use choice::{Alternative, Tokens, put, token_time, triggered};
 use lines::Token;
-use marks::Found;
+use marks::{Found, Lead};
 use words::{number_at, word_at};
 
-// The tokens for the name after the first j: from its mark on, or all of its line if it has no mark.
-fn tokens_left(
-    b: &[u32],
-    p: &[u32],
-    t: Token,
-    a: Alternative,
-    j: usize,
-    times: &[u64; 16],
-    rests: &[u64; 16],
-) -> Tokens
-    requires { (j < a.names) × (a.names < 2 ^ 32) × (a.name < 2 ^ 40) × Leads b.now p.now a t times.now rests.now }
-    ensures { Along b.now p.now a j result × Source b.now p.now a t j result.count result.place result.start }
-{
-    let w = choice::tokens_of(b, p, a.name + 2 * j);
-    let k = j as u32 + 1;
-    let count = token_time(rests, 0, k);
-    if count == 0 {
-        return w;
-    }
-    let place = token_time(rests, 1, k) as usize;
-    let start = token_time(times, 0, k);
-    Tokens {
-        value: w.value,
-        tied: false,
-        job: 0,
-        width: w.width,
-        count,
-        place,
-        start,
-    }
-}
-
-// The same with the job that the name is asked for, c being the choice so far: a token of another job is passed over.
-fn tokens_tied(b: &[u32], a: Alternative, c: &[u64; 16], j: usize, w: Tokens) -> Tokens
-    requires { (j + 1 < 2 ^ 32) × (a.ask + 8 * a.asks < 2 ^ 60) }
-    ensures { Tying b.now a c.now j w result }
-{
-    let k = choice::job_asked(b, a, c, j as u32 + 1);
-    Tokens {
-        value: w.value,
-        tied: k.tied,
-        job: k.job,
-        width: w.width,
-        count: w.count,
-        place: w.place,
-        start: w.start,
-    }
-}
-
 // Whether the token at a place has the value that is asked for, and the job if one is.
+#[tactic(auto, unfolding(crate::specs::Search::wanted))]
 fn wanted(p: &[u32], w: Tokens, place: usize) -> bool
     requires { place < 2 ^ 60 }
     ensures { result ≡ wanted p.now w place }
@@ -73,233 +26,195 @@ fn wanted(p: &[u32], w: Tokens, place: usize) -> bool
     if word_at(p, place) != w.value {
         return false;
     }
-    if !w.tied {
-        return true;
+    match w.job {
+        None => true,
+        Some(job) => lines::job_at(p, place) as u64 == job,
     }
-    lines::job_at(p, place) as u64 == w.job
 }
 
-// Whether the n names after the first j can be given tokens, so that all that the alternative asks holds.
-#[cycle(place_try_token_try_tokens)]
-fn place(
-    n: usize,
-    j: usize,
-    b: &[u32],
-    p: &[u32],
-    t: Token,
-    a: Alternative,
-    c: [u64; 16],
-    times: &[u64; 16],
-    rests: &[u64; 16],
-) -> bool
-    requires { (j + n ≡ a.names) × (a.names < 2 ^ 32) × (a.name < 2 ^ 40) × (a.ask + 8 * a.asks < 2 ^ 60) × Begun b.now p.now a t j c × Leads b.now p.now a t times.now rests.now }
-    ensures { result ≡ placeable b.now p.now a n j c }
-{
-    if !choice::hold_so_far(b, a, &c, j) {
-        return false;
-    }
-    if n == 0 {
-        return true;
-    }
-    let w = tokens_tied(b, a, &c, j, tokens_left(b, p, t, a, j, times, rests));
-    try_tokens(n - 1, w, j, b, p, t, a, c, times, rests)
+// What a search goes by: the book, the plan, the trigger token, the alternative whose names are placed, and the marks to search from. The
+// alternative's numbers are in the range of those that are read from a book.
+#[derive(Clone, Copy)]
+struct Search<'a> {
+    book: &'a [u32],
+    plan: &'a [u32],
+    trigger: Token,
+    alternative: Alternative,
+    lead: &'a Lead,
+    ghost names_fit: { alternative.names < 2 ^ 32 },
+    ghost name_fits: { alternative.name < 2 ^ 40 },
+    ghost asks_fit: { alternative.ask + 8 * alternative.asks < 2 ^ 60 },
 }
 
-// The same with one of the tokens left given to the name after the first j; n names come after it.
-#[cycle(place_try_token_try_tokens)]
-fn try_tokens(
-    n: usize,
-    w: Tokens,
-    j: usize,
-    b: &[u32],
-    p: &[u32],
-    t: Token,
-    a: Alternative,
-    c: [u64; 16],
-    times: &[u64; 16],
-    rests: &[u64; 16],
-) -> bool
-    requires { (j + n + 1 ≡ a.names) × (a.names < 2 ^ 32) × (a.name < 2 ^ 40) × (a.ask + 8 * a.asks < 2 ^ 60) × Along b.now p.now a j w × Begun b.now p.now a t j c × Tied b.now a c (j + 1) w.tied w.job × Leads b.now p.now a t times.now rests.now }
-    ensures { result ≡ token_for b.now p.now a n j c w }
-{
-    if w.count == 0 {
-        return false;
+impl<'a> Search<'a> {
+    ghost use Rattle.matching.specs.Searched.{Led, BegunIn, AlongIn, SourceIn, placeable_in, token_in};
+
+    // The tokens for the name after the first j: from its mark on, or all of its line if it has no mark.
+    fn tokens_left(&self, j: usize) -> Tokens
+        requires { (j < self.now.alternative.names) × Led self.now }
+        ensures { AlongIn self.now j result × SourceIn self.now j result }
+    {
+        let a = self.alternative;
+        let w = choice::tokens_of(self.book, self.plan, a.name + 2 * j);
+        let k = j as u32 + 1;
+        let count = token_time(&self.lead.rests, 0, k);
+        if count == 0 {
+            return w;
+        }
+        let place = token_time(&self.lead.rests, 1, k) as usize;
+        let start = token_time(&self.lead.times, 0, k);
+        Tokens {
+            count,
+            place,
+            start,
+            ..w
+        }
     }
-    let end = w.start + word_at(p, w.place + 1) as u64;
-    if wanted(p, w, w.place) {
-        let job = lines::job_at(p, w.place) as u64;
-        if try_token(n, w.start, end, job, j, b, p, t, a, c, times, rests) {
+
+    // The same with the job that the name is asked for, c being the choice so far: a token of another job is passed over.
+    fn tokens_tied(&self, c: &[u64; 16], j: usize, w: Tokens) -> Tokens
+        requires { j + 1 < 2 ^ 32 }
+        ensures { Tying self.now.book.now self.now.alternative c.now j w result }
+    {
+        let job = choice::job_asked(self.book, self.alternative, c, j as u32 + 1);
+        Tokens { job, ..w }
+    }
+
+    // Whether the n names after the first j can be given tokens, so that all that the alternative asks holds.
+    #[cycle(place_try_token_try_tokens)]
+    fn place(&self, n: usize, j: usize, c: [u64; 16]) -> bool
+        requires { (j + n ≡ self.now.alternative.names) × BegunIn self.now j c × Led self.now }
+        ensures { result ≡ placeable_in self.now n j c }
+    {
+        if !choice::hold_so_far(self.book, self.alternative, &c, j) {
+            return false;
+        }
+        if n == 0 {
             return true;
         }
+        let w = self.tokens_tied(&c, j, self.tokens_left(j));
+        self.try_tokens(n - 1, w, j, c)
     }
-    let next = Tokens {
-        value: w.value,
-        tied: w.tied,
-        job: w.job,
-        width: w.width,
-        count: w.count - 1,
-        place: w.place + w.width,
-        start: end,
-    };
-    try_tokens(n, next, j, b, p, t, a, c, times, rests)
-}
 
-// Whether the token from start to end, of a job, given to the name after the first j, lets the n names after it be placed.
-#[cycle(place_try_token_try_tokens)]
-fn try_token(
-    n: usize,
-    start: u64,
-    end: u64,
-    job: u64,
-    j: usize,
-    b: &[u32],
-    p: &[u32],
-    t: Token,
-    a: Alternative,
-    c: [u64; 16],
-    times: &[u64; 16],
-    rests: &[u64; 16],
-) -> bool
-    requires { (j + n + 1 ≡ a.names) × (a.names < 2 ^ 32) × (a.name < 2 ^ 40) × (a.ask + 8 * a.asks < 2 ^ 60) × Begun b.now p.now a t (j + 1) (put c (j + 1) start end job) × Leads b.now p.now a t times.now rests.now }
-    ensures { result ≡ placeable b.now p.now a n (j + 1) (put c (j + 1) start end job) }
-{
-    let mut d = c;
-    put(&mut d, j + 1, start, end, job);
-    place(n, j + 1, b, p, t, a, d, times, rests)
-}
-
-// A choice from a place on.
-fn load(m: &[u64], k: usize) -> [u64; 16]
-    requires { k < 2 ^ 60 }
-    ensures { result ≡ row m.now k }
-{
-    let mut c = [0u64; 16];
-    let mut i: usize = 0;
-    while i < 16 {
-        set_time(&mut c, i, time_at(m, k + i, 0));
-        i += 1;
-    }
-    c
-}
-
-// Stores a choice from a place on.
-fn store(m: &mut [u64], k: usize, c: &[u64; 16])
-    requires { k < 2 ^ 60 }
-    ensures { Storing m.old m.new k c.now row_size }
-{
-    let mut i: usize = 0;
-    while i < 16 {
-        set_time(m, k + i, time_at(c, i, 0));
-        i += 1;
-    }
-}
-
-// Stores in a slot where the marks are.
-fn keep(kept: &mut [u64], slot: usize, times: &[u64; 16], rests: &[u64; 16])
-    requires { slot < 2 ^ 50 }
-    ensures { Keeping kept.old kept.new slot times.now rests.now }
-{
-    set_time(kept, slot, 1);
-    store(kept, slot + 1, times);
-    store(kept, slot + 17, rests);
-}
-
-// Raises marks and keeps them: whether there may be a choice.
-fn carry_on(
-    b: &[u32],
-    p: &[u32],
-    t: Token,
-    a: Alternative,
-    times: &mut [u64; 16],
-    rests: &mut [u64; 16],
-    kept: &mut [u64],
-    slot: usize,
-) -> bool
-    requires { (a.name < 2 ^ 40) × (a.ask < 2 ^ 40) × (a.asks < 2 ^ 32) × (slot < 2 ^ 50) × (slot < length kept.old → slot + slot_size ≤ length kept.old) × Marked b.now p.now a t a.names times.old rests.old }
-    ensures { Settled b.now p.now a t result times.new rests.new × Carry b.now p.now a t kept.new slot × Slot kept.old kept.new slot }
-{
-    let f = marks::raise(b, p, t, a, times, rests);
-    match f {
-        Found::Marks => {
-            keep(kept, slot, times, rests);
-            true
+    // The same with one of the tokens left given to the name after the first j; n names come after it.
+    #[cycle(place_try_token_try_tokens)]
+    fn try_tokens(&self, n: usize, w: Tokens, j: usize, c: [u64; 16]) -> bool
+        requires { (j + n + 1 ≡ self.now.alternative.names) × AlongIn self.now j w × BegunIn self.now j c × Tied self.now.book.now self.now.alternative c (j + 1) w.job × Led self.now }
+        ensures { result ≡ token_in self.now n j c w }
+    {
+        let p = self.plan;
+        if w.count == 0 {
+            return false;
         }
-        Found::NoneNow => {
-            keep(kept, slot, times, rests);
-            false
+        let end = w.start + word_at(p, w.place + 1) as u64;
+        if wanted(p, w, w.place) {
+            let job = lines::job_at(p, w.place) as u64;
+            if self.try_token(n, w.start, end, job, j, c) {
+                return true;
+            }
         }
-        Found::NoneEver => {
-            set_time(kept, slot, 2);
-            false
-        }
+        let next = Tokens {
+            count: w.count - 1,
+            place: w.place + w.width,
+            start: end,
+            ..w
+        };
+        self.try_tokens(n, next, j, c)
+    }
+
+    // Whether the token from start to end, of a job, given to the name after the first j, lets the n names after it be placed.
+    #[cycle(place_try_token_try_tokens)]
+    fn try_token(&self, n: usize, start: u64, end: u64, job: u64, j: usize, c: [u64; 16]) -> bool
+        requires { (j + n + 1 ≡ self.now.alternative.names) × BegunIn self.now (j + 1) (put c (j + 1) start end job) × Led self.now }
+        ensures { result ≡ placeable_in self.now n (j + 1) (put c (j + 1) start end job) }
+    {
+        let mut d = c;
+        put(&mut d, j + 1, start, end, job);
+        self.place(n, j + 1, d)
     }
 }
 
-// Whether an alternative may have a choice, and marks from which it is to be searched.
-#[derive(Clone, Copy)]
-pub struct Lead {
-    pub open: bool,
-    pub times: [u64; 16],
-    pub rests: [u64; 16],
+// What was found for an earlier trigger token, for the trigger token t: the marked tokens stay. No marks, if there is no choice any more.
+fn handed_on(found: Found, t: Token) -> Option<Lead>
+    ensures { result ≡ handed t found }
+{
+    match found {
+        Found::Open(mut m) | Found::NoneNow(mut m) => {
+            put(&mut m.times, 0, t.start.tick, t.end.tick, t.job as u64);
+            Some(m)
+        }
+        Found::NoneEver => None,
+    }
 }
 
 // Raises the marks of an alternative for the trigger token t: those kept from the trigger tokens before it, or new ones.
+fn raise_kept(
+    b: &[u32],
+    p: &[u32],
+    last: u64,
+    t: Token,
+    a: Alternative,
+    kept: Option<Found>,
+) -> Found
+    requires { (a.names ≤ 4) × (a.name < 2 ^ 40) × (a.ask < 2 ^ 40) × (a.asks < 2 ^ 32) × Carry b.now p.now a t kept × (last ≡ plan_end (line_of p.now)) }
+    ensures { Raised b.now p.now a t result }
+{
+    let started = match kept {
+        None => marks::start_marks(b, p, last, t, a),
+        Some(found) => handed_on(found, t),
+    };
+    match started {
+        Some(m) => marks::raise(b, p, t, a, m),
+        None => Found::NoneEver,
+    }
+}
+
+// What is kept of alternative number i: nothing where there is no place for it.
+fn kept_of(kept: &[Option<Found>; 64], i: usize) -> Option<Found>
+    ensures { result ≡ get_or kept.now i None }
+{
+    kept.get(i).copied().flatten()
+}
+
+// Keeps what was found of alternative number i, if there is a place for it.
+fn keep(kept: &mut [Option<Found>; 64], i: usize, found: Found)
+    ensures { kept.new ≡ set kept.old i (Some found) }
+{
+    if i < kept.len() {
+        kept[i] = Some(found);
+    }
+}
+
+// The marks to search alternative number i from, unless it has no choice for the trigger token t; what was found is kept. An alternative with
+// over four names, which no sound book has, is searched without marks.
 fn settle(
     b: &[u32],
     p: &[u32],
     last: u64,
     t: Token,
     a: Alternative,
-    kept: &mut [u64],
-    slot: usize,
-) -> Lead
-    requires { (a.name < 2 ^ 40) × (a.ask < 2 ^ 40) × (a.asks < 2 ^ 32) × (slot < 2 ^ 50) × (slot < length kept.old → slot + slot_size ≤ length kept.old) × Carry b.now p.now a t kept.old slot × (last ≡ plan_end (line_of p.now)) }
-    ensures { Settled b.now p.now a t result.open result.times result.rests × Carry b.now p.now a t kept.new slot × Slot kept.old kept.new slot }
+    kept: &mut [Option<Found>; 64],
+    i: usize,
+) -> Option<Lead>
+    requires { (a.name < 2 ^ 40) × (a.ask < 2 ^ 40) × (a.asks < 2 ^ 32) × Carry b.now p.now a t (get_or kept.old i None) × (last ≡ plan_end (line_of p.now)) }
+    ensures { Settled b.now p.now a t result × Keeping b.now p.now a t i kept.old kept.new }
 {
-    let mut times = triggered(last, t);
-    let mut rests = [0u64; 16];
     if a.names > 4 {
-        return Lead {
-            open: true,
-            times,
-            rests,
-        };
+        return Some(Lead {
+            times: triggered(last, t),
+            rests: [0; 16],
+        });
     }
-    let state = time_at(kept, slot, 0);
-    if state == 2 {
-        return Lead {
-            open: false,
-            times,
-            rests,
-        };
+    let found = raise_kept(b, p, last, t, a, kept_of(kept, i));
+    keep(kept, i, found);
+    match found {
+        Found::Open(m) => Some(m),
+        Found::NoneNow(_) | Found::NoneEver => None,
     }
-    if state == 1 {
-        let mut held = load(kept, slot + 1);
-        let mut left = load(kept, slot + 17);
-        let start = t.start;
-        let end = t.end;
-        put(&mut held, 0, start.tick, end.tick, t.job as u64);
-        let open = carry_on(b, p, t, a, &mut held, &mut left, kept, slot);
-        return Lead {
-            open,
-            times: held,
-            rests: left,
-        };
-    }
-    if !marks::start_marks(b, p, t, a, &mut times, &mut rests) {
-        set_time(kept, slot, 2);
-        return Lead {
-            open: false,
-            times,
-            rests,
-        };
-    }
-    let open = carry_on(b, p, t, a, &mut times, &mut rests, kept, slot);
-    Lead { open, times, rests }
 }
 
 // Whether one of the n alternatives from number `first` on is met for the trigger token t: the first alternative and assignment found
-// settles it. The plan ends at `last`. `kept` has the marks of the trigger tokens before t, 33 words for each alternative.
+// settles it. The plan ends at `last`. `kept` has what was found for the trigger tokens before t, of each alternative.
 pub fn met(
     e: usize,
     b: &[u32],
@@ -308,63 +223,49 @@ pub fn met(
     n: u32,
     last: u64,
     t: Token,
-    kept: &mut [u64],
+    kept: &mut [Option<Found>; 64],
 ) -> bool
     requires { (last ≡ plan_end (line_of p.now)) × Carried e b.now p.now t n (offset b.now 3 + 4 * first) kept.old }
     ensures { (result ≡ met_at e b.now p.now t n (offset b.now 3 + 4 * first)) × Carried e b.now p.now t n (offset b.now 3 + 4 * first) kept.new }
 {
+    let at = number_at(b, 9) + 4 * first as usize;
+    let c = triggered(last, t);
+    // a flag, since a loop that a label leaves gives no value
     let mut found = false;
-    let mut alternatives = n;
-    let mut at = number_at(b, 9) + 4 * first as usize;
-    let mut slot: usize = 0;
-    'settled: while alternatives != 0 {
-        let a = choice::alternative_at(e, b, at);
-        let s = settle(b, p, last, t, a, kept, slot);
-        if s.open {
-            let c = triggered(last, t);
-            let times = s.times;
-            let rests = s.rests;
-            if a.names == 0 {
-                if choice::hold_so_far(b, a, &c, 0) {
+    'settled: for i in 0..n as usize {
+        let a = choice::alternative_at(e, b, at + 4 * i);
+        let Some(lead) = settle(b, p, last, t, a, kept, i) else {
+            continue;
+        };
+        if a.names == 0 {
+            if choice::hold_so_far(b, a, &c, 0) {
+                found = true;
+                break 'settled;
+            }
+            continue;
+        }
+        let s = Search {
+            book: b,
+            plan: p,
+            trigger: t,
+            alternative: a,
+            lead: &lead,
+        };
+        let w = s.tokens_tied(&c, 0, s.tokens_left(0));
+        let mut place = w.place;
+        let mut start = w.start;
+        for _ in 0..w.count {
+            let end = start + word_at(p, place + 1) as u64;
+            if wanted(p, w, place) {
+                let job = lines::job_at(p, place) as u64;
+                if s.try_token(a.names - 1, start, end, job, 0, c) {
                     found = true;
                     break 'settled;
                 }
-            } else {
-                let w = tokens_tied(b, a, &c, 0, tokens_left(b, p, t, a, 0, &times, &rests));
-                let mut token = w.place;
-                let mut start = w.start;
-                let mut count = w.count;
-                while count != 0 {
-                    let end = start + word_at(p, token + 1) as u64;
-                    if wanted(p, w, token) {
-                        let job = lines::job_at(p, token) as u64;
-                        if try_token(
-                            a.names - 1,
-                            start,
-                            end,
-                            job,
-                            0,
-                            b,
-                            p,
-                            t,
-                            a,
-                            c,
-                            &times,
-                            &rests,
-                        ) {
-                            found = true;
-                            break 'settled;
-                        }
-                    }
-                    start = end;
-                    token += w.width;
-                    count -= 1;
-                }
             }
+            start = end;
+            place += w.width;
         }
-        alternatives -= 1;
-        at += 4;
-        slot += 33;
     }
     found
 }

@@ -6,10 +6,13 @@ use mathlib.Core.List.{List}
 use Prim.Native.Nat.{ℕ, ◌+◌, ◌-◌, ◌*◌, ◌≤◌, ◌<◌}
 use native.Mathlib.Omega.{arith}
 use lib.ListN.{length}
+use Rattle.std.specs.Prelude.{Ok, Err}
 use borrow.Author.Tests.{eq-eqb, ne_eqb, lt-ltb, le-ltb, ltb-true, ltb-false}
 use Rattle.answers.specs.declared.Numbers.{Numbers}
-use Rattle.answers.specs.Numbers.{numbers, or_else}
-use Rattle.answers.proofs.Stages.{else_fault, stages, stage, held}
+use Rattle.answers.specs.declared.Done.{Done}
+use Rattle.answers.specs.declared.Refusal.{Refusal}
+use Rattle.answers.specs.Numbers.{numbers, numbers_of, or_else}
+use Rattle.answers.proofs.Stages.{stages, stage, held, refusal_number, done_number, or_refused}
 use Rattle.words.specs.Words.{word}
 use Rattle.clock.specs.Clock.{no_limit}
 use Rattle.layout.specs.Layout.{fifth_width, count, offset, record_at, field, owner}
@@ -82,12 +85,10 @@ module _ (s : List ℕ) (a : ℕ) (m : List ℕ) where
   unfolding table_after
   refused x e h = (e, rw (ne_eqb (narrowing s a (length m)).number 0 (λ z. h (ap (λ (n : Numbers). n.number) e ∙ z))))
 
-  -- the sheet's own fault; x is what its check answered, and f the numbers read off it
-  pub bad_by : (x f : Numbers) → x ≡ book_fault 2 s → f ≡ x → (f.number ≡ 0 → ⊥) → Outcome m x
+  -- the sheet's own fault
+  pub bad_by : (r : Refusal) → numbers_of (Err r) ≡ book_fault 2 s → Outcome m (numbers_of (Err r))
   unfolding narrowing
-  bad_by x f e q h =
-      let n : x.number ≡ 0 → ⊥ = λ z. h (ap (λ (n : Numbers). n.number) q ∙ z) in
-      refused x (e ∙ sym (else_fault (book_fault 2 s) _ (λ z. n (ap (λ (n : Numbers). n.number) e ∙ z)))) n
+  bad_by r e = refused (numbers_of (Err r)) (or_refused r (book_fault 2 s) _ e) (refusal_number r)
 
   module _ (z : (book_fault 2 s).number ≡ 0) where
     pub no_alternative_lem : count s 3 ≤ a → Outcome m (numbers 27 0 0)
@@ -107,22 +108,19 @@ module _ (s : List ℕ) (a : ℕ) (m : List ℕ) where
     unfolding table_after
     done l h = (sym (enough l h), rw (enough l h))
 
--- the sheet has no fault, as the code knows it
-pub no_fault_lem : (s : List ℕ) (x f : Numbers) → x ≡ book_fault 2 s → f ≡ x → f.number ≡ 0 → (book_fault 2 s).number ≡ 0
-no_fault_lem s x f e q h = sym (ap (λ (n : Numbers). n.number) (q ∙ e)) ∙ h
-
 pub sheet_sound : (s : List ℕ) → (book_fault 2 s).number ≡ 0 → Sound 2 s
 sheet_sound s z = sound 2 s (good 2 s (no_number 2 s z))
 
--- p is alternative number a of a sheet without fault, as the code knows it: n is the count that it read
+-- p is alternative number a of a sheet without fault, as the code knows it
 pub record Read (s : List ℕ) (a : ℕ) (p : Alternative) : Type 0 where
   pub sheet : (book_fault 2 s).number ≡ 0
   pub below : a < count s 3
   pub is : p ≡ alternative_of s a
 
-pub read : (s : List ℕ) (a : ℕ) (p : Alternative) (x f : Numbers) (n : ℕ) → x ≡ book_fault 2 s → f ≡ x → f.number ≡ 0 → n ≡ count s 3 → a < n
+-- n is the count that it read
+pub read : (s : List ℕ) (a : ℕ) (p : Alternative) (d : Done) (n : ℕ) → numbers_of (Ok d) ≡ book_fault 2 s → n ≡ count s 3 → a < n
     → p ≡ alternative_of s a → Read s a p
-read s a p x f n e q h c l is = record { sheet = no_fault_lem s x f e q h; below = omega arith; is = is }
+read s a p d n e c l is = record { sheet = done_number d (book_fault 2 s) e; below = omega arith; is = is }
 
 module _ {s : List ℕ} {a : ℕ} {p : Alternative} (r : Read s a p) where
   pub few_of : p.tokens ≤ 5

@@ -1,6 +1,6 @@
 -- The first table word by word, and its constraints one by one: the table keeps its length, and what is left to do of a run of constraints
 -- is the rest of the run. Assumes nothing.
-use mathlib.Core.Path.{◌≡◌, refl, sym, ap, ◌∙◌, subst}
+use mathlib.Core.Path.{◌≡◌, refl, sym, ◌∙◌, subst}
 use mathlib.Core.List.{List, [], ◌∷◌}
 use Prim.Native.Nat.{ℕ, zero, suc, ◌+◌, ◌-◌, ◌*◌, ◌≤◌, ◌<◌}
 use native.Mathlib.Nat.{zero-mul, suc-mul}
@@ -14,9 +14,16 @@ use Rattle.words.specs.Lists.{All}
 use Rattle.words.specs.Runs.{run}
 use Rattle.book.specs.Rules.{Constraint, constraint_at}
 use Rattle.composition.specs.Table.{converse_set}
+use Rattle.narrowing.specs.declared.Sets.{Sets}
 use Rattle.narrowing.specs.First.{first_word, filled, cut_by, constrained, constrained_all}
+use Rattle.narrowing.specs.Lent.{Kept}
 use Rattle.narrowing.specs.Passes.{Seated}
 use Rattle.narrowing.proofs.Places.{below}
+
+-- ---- what is kept while the sets are cut
+
+pub kept_then : {a b c : Sets} → Kept a b → Kept b c → Kept a c
+kept_then f g = record { tokens = g.tokens ∙ f.tokens; table = g.table ∙ f.table }
 
 -- ---- the first table
 
@@ -29,17 +36,11 @@ unfolding filled
 length-filled n zero m = refl
 length-filled n (suc k) m = length-set (filled n k m) k (first_word n k) ∙ length-filled n k m
 
-pub filled_size : (n k : ℕ) (m : List ℕ) {after : List ℕ} → after ≡ filled n k m → length after ≡ length m
-filled_size n k m h = ap length h ∙ length-filled n k m
-
 -- ---- a constraint
 
 length_cut : (m : List ℕ) (a d : ℕ) → length (cut_by m a d) ≡ length m
 unfolding cut_by
 length_cut m a d = length-set m a (bit_and (get_or m a 0) d)
-
-pub cut_size : (m : List ℕ) (a d : ℕ) {after : List ℕ} → after ≡ cut_by m a d → length after ≡ length m
-cut_size m a d h = ap length h ∙ length_cut m a d
 
 pub two_cuts : (n l r d : ℕ) (m : List ℕ) {c : ℕ} {once twice : List ℕ} → c ≡ converse_set d → once ≡ cut_by m (l * n + r) d → twice ≡ cut_by once (r * n + l) c
     → twice ≡ constrained n l r d m
@@ -54,9 +55,6 @@ pub length-all : (n f : ℕ) (qs : List Constraint) (m : List ℕ) → length (c
 unfolding constrained_all
 length-all n f [] m = refl
 length-all n f (q ∷ qs) m = length-all n f qs _ ∙ length-constrained n (q.left - f) (q.right - f) q.set m
-
-pub all_size : (n f : ℕ) (qs : List Constraint) (m : List ℕ) {after : List ℕ} → after ≡ constrained_all n f qs m → length after ≡ length m
-all_size n f qs m h = ap length h ∙ length-all n f qs m
 
 -- ---- words past the table stay
 
@@ -97,17 +95,11 @@ run-all P f w (suc n) at h =
 
 -- ---- a run of constraints: after i of them the whole's answer is the rest's
 
-pub record Rest (s : List ℕ) (n f count place : ℕ) (start : List ℕ) (i : ℕ) (now : List ℕ) : Type 0 where
-  pub size : length now ≡ length start
-  pub rest : constrained_all n f (run (constraint_at s) 3 count place) start ≡ constrained_all n f (run (constraint_at s) 3 (count - i) (place + i * 3)) now
+abbrev pub Rest : List ℕ → ℕ → ℕ → ℕ → ℕ → List ℕ → ℕ → List ℕ → Type 0
+Rest s n f count place start i now =
+    constrained_all n f (run (constraint_at s) 3 count place) start ≡ constrained_all n f (run (constraint_at s) 3 (count - i) (place + i * 3)) now
 
 module _ (s : List ℕ) (n f count place : ℕ) (start : List ℕ) where
-  pub rest-none : Rest s n f count place start 0 start
-  rest-none =
-      let none : count - 0 ≡ count = omega arith in
-      let here : place + 0 * 3 ≡ place = omega arith in
-      record { size = refl; rest = rw (none, here) }
-
   pub rest_more : (i : ℕ) (m after : List ℕ) → i < count → Rest s n f count place start i m
       → after ≡ constrained n (word s (place + i * 3) - f) (word s (place + i * 3 + 1) - f) (word s (place + i * 3 + 2)) m
       → Rest s n f count place start (i + 1) after
@@ -115,14 +107,11 @@ module _ (s : List ℕ) (n f count place : ℕ) (start : List ℕ) where
   rest_more i m after l r e =
       let left : count - i ≡ suc (count - (i + 1)) = omega arith in
       let next : place + (i + 1) * 3 ≡ place + i * 3 + 3 = omega arith in
-      record {
-        size = ap length e ∙ length-constrained n _ _ _ m ∙ r.size;
-        rest = rw (next, e) (rw left at r.rest);
-      }
+      rw (next, e) (rw left at r)
 
-  pub rest-done : (i : ℕ) (m : List ℕ) → i ≤ count → count ≤ i → Rest s n f count place start i m
+  pub rest-done : (i : ℕ) (m : List ℕ) → count ≤ i → Rest s n f count place start i m
       → m ≡ constrained_all n f (run (constraint_at s) 3 count place) start
   unfolding run constrained_all
-  rest-done i m l k r =
+  rest-done i m k r =
       let none : count - i ≡ 0 = omega arith in
-      sym (rw none at r.rest)
+      sym (rw none at r)

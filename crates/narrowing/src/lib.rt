@@ -8,9 +8,9 @@ ghost use Rattle.words.specs.Words.{word};
 ghost use Rattle.narrowing.specs.First.{first_word, filled, cut_by, constrained, constrained_all};
 ghost use Rattle.narrowing.specs.Narrowed.{cut_word, across, step_word, narrowed};
 ghost use Rattle.narrowing.specs.Passes.{CutOnce, Passed, Seated, AllSeated};
-ghost use Rattle.narrowing.specs.Sheet.{rule_of, first_token, alternative_of, constraints_of, narrowing, table_after};
+ghost use Rattle.narrowing.specs.Sheet.{first_token, alternative_of, constraints_of, narrowing, table_after};
 
-use answers::Answer;
+use answers::{Answer, Done, Refusal};
 use clock::Time;
 use words::number_at;
 
@@ -24,64 +24,8 @@ struct Alternative {
     constraints: usize,
 }
 
-// ---- cutting by composition
-
-// The word at a, cut by the composition of those at b and c; whether it stayed.
-fn cut(m: &mut [u32], a: usize, b: usize, c: usize) -> bool
-    requires { (a < length m.old) × (b < length m.old) × (c < length m.old) }
-    ensures { CutOnce m.old m.new a (cut_word m.old a b c) result }
-{
-    let old = m[a];
-    let left = m[b];
-    let right = m[c];
-    let cut = old & composition::compose(left, right);
-    m[a] = cut;
-    old == cut
-}
-
-// Step t of a pass over n tokens: the set of two is cut by way of a third.
-fn cut_step(m: &mut [u32], n: usize, t: usize) -> bool
-    requires { (n ≤ 5) × (t < n * n * n) × (n * n ≤ length m.old) }
-    ensures { CutOnce m.old m.new (across n t) (step_word n t m.old) result }
-{
-    let u = t / n;
-    let i = u % n;
-    let k = u / n;
-    let j = t % n;
-    cut(m, i * n + j, i * n + k, k * n + j)
-}
-
-// Every two tokens by way of every third, once; whether nothing changed.
-fn pass(m: &mut [u32], n: usize) -> bool
-    requires { (n ≤ 5) × (n * n ≤ length m.old) }
-    ensures { Passed n (n * n * n) m.old m.new result }
-{
-    let total = n * n * n;
-    let mut same = true;
-    let mut t: usize = 0;
-    while t < total {
-        let kept = cut_step(m, n, t);
-        same = same & kept;
-        t += 1;
-    }
-    same
-}
-
-// The sets of every two of n tokens, cut by composition until nothing changes.
-fn settle(m: &mut [u32], n: usize)
-    requires { (n ≤ 5) × (n * n ≤ length m.old) }
-    ensures { m.new ≡ narrowed n m.old }
-{
-    loop {
-        if pass(m, n) {
-            return;
-        }
-    }
-}
-
-// ---- the first table
-
 // The word of the first table at t: "equals" alone for a token and itself, else all thirteen.
+#[tactic(auto, unfolding(crate::specs::First::first_word))]
 fn first_word(n: usize, t: usize) -> u32
     requires { 0 < n }
     ensures { result ≡ first_word n t }
@@ -89,87 +33,148 @@ fn first_word(n: usize, t: usize) -> u32
     if t / n == t % n { 64 } else { 8191 }
 }
 
-// The first table of n tokens.
-fn begin(m: &mut [u32], n: usize)
-    requires { (n ≤ 5) × (n * n ≤ length m.old) }
-    ensures { m.new ≡ filled n (n * n) m.old }
-{
-    let cells = n * n;
-    let mut t: usize = 0;
-    while t < cells {
-        m[t] = first_word(n, t);
-        t += 1;
+// The sets of relations that are left for every two of n tokens, in a lent table.
+#[derive(Drop)]
+struct Sets<'a> {
+    table: &'a mut [u32],
+    tokens: usize,
+    ghost few: { tokens ≤ 5 },
+    ghost fits: { tokens * tokens ≤ length table.now },
+}
+
+impl Sets<'_> {
+    ghost use Rattle.narrowing.specs.Lent.{Kept};
+
+    // ---- cutting by composition
+
+    // The word at a, cut by the composition of those at b and c; whether it stayed.
+    #[tactic(auto, unfolding(crate::specs::Narrowed::cut_word))]
+    fn cut(&mut self, a: usize, b: usize, c: usize) -> bool
+        requires { (a < length self.old.table.now) × (b < length self.old.table.now) × (c < length self.old.table.now) }
+        ensures same { Kept self.old self.new }
+        ensures once { CutOnce self.old.table.now self.new.table.now a (cut_word self.old.table.now a b c) result }
+    {
+        let old = self.table[a];
+        let left = self.table[b];
+        let right = self.table[c];
+        let cut = old & composition::compose(left, right);
+        self.table[a] = cut;
+        old == cut
     }
-}
 
-// The word at a, cut by the set d.
-#[tactic(auto, unfolding(crate::specs::First::cut_by))]
-fn cut_by(m: &mut [u32], a: usize, d: u32)
-    requires { a < length m.old }
-    ensures { m.new ≡ cut_by m.old a d }
-{
-    m[a] = m[a] & d;
-}
+    // Step t of a pass: the set of two is cut by way of a third.
+    #[tactic(auto, using(crate::proofs::Places::small), unfolding(crate::specs::Narrowed::step_word))]
+    fn cut_step(&mut self, t: usize) -> bool
+        requires { t < self.old.tokens * self.old.tokens * self.old.tokens }
+        ensures same { Kept self.old self.new }
+        ensures once { CutOnce self.old.table.now self.new.table.now (across self.old.tokens t) (step_word self.old.tokens t self.old.table.now) result }
+    {
+        let n = self.tokens;
+        let u = t / n;
+        let i = u % n;
+        let k = u / n;
+        let j = t % n;
+        self.cut(i * n + j, i * n + k, k * n + j)
+    }
 
-// A constraint cuts its pair and, by its converse, the reversed one.
-fn constrain(m: &mut [u32], n: usize, l: usize, r: usize, d: u32)
-    requires { (n ≤ 5) × (l < n) × (r < n) × (n * n ≤ length m.old) }
-    ensures { m.new ≡ constrained n l r d m.old }
-{
-    let a = l * n + r;
-    let b = r * n + l;
-    let c = composition::converse_set(d);
-    cut_by(m, a, d);
-    cut_by(m, b, c);
-}
+    // Every two tokens by way of every third, once; whether nothing changed.
+    #[tactic(auto, using(crate::proofs::Steps::passed_none))]
+    fn pass(&mut self) -> bool
+        ensures same { Kept self.old self.new }
+        ensures once { Passed self.old.tokens (self.old.tokens * self.old.tokens * self.old.tokens) self.old.table.now self.new.table.now result }
+    {
+        let n = self.tokens;
+        let mut same = true;
+        for t in 0..n * n * n {
+            same &= self.cut_step(t);
+        }
+        same
+    }
 
-// The same for the constraint at a place of the sheet.
-fn constrain_at(s: &[u32], at: usize, n: usize, first: usize, m: &mut [u32])
-    requires { (n ≤ 5) × (at < 2 ^ 40) × (n * n ≤ length m.old) × Seated n first (word s.now at) × Seated n first (word s.now (at + 1)) }
-    ensures { m.new ≡ constrained n (word s.now at - first) (word s.now (at + 1) - first) (word s.now (at + 2)) m.old }
-{
-    let l = number_at(s, at) - first;
-    let r = number_at(s, at + 1) - first;
-    let d = words::word_at(s, at + 2);
-    constrain(m, n, l, r, d);
-}
+    // The sets, cut by composition until nothing changes.
+    fn settle(&mut self)
+        ensures same { Kept self.old self.new }
+        ensures table { self.new.table.now ≡ narrowed self.old.tokens self.old.table.now }
+    {
+        // no count: it ends since each pass that changes anything makes the words' sum smaller
+        loop {
+            if self.pass() {
+                return;
+            }
+        }
+    }
 
-// All constraints of an alternative, in turn.
-fn constrain_all(s: &[u32], p: Alternative, m: &mut [u32])
-    requires { (p.tokens ≤ 5) × (p.place < 2 ^ 36) × (p.constraints < 2 ^ 32) × (p.tokens * p.tokens ≤ length m.old) × AllSeated s.now p }
-    ensures { m.new ≡ constrained_all p.tokens p.first (constraints_of s.now p) m.old }
-{
-    let mut i: usize = 0;
-    while i < p.constraints {
-        constrain_at(s, p.place + i * 3, p.tokens, p.first, m);
-        i += 1;
+    // ---- the first table
+
+    // Begins: the sets of the first table.
+    #[tactic(auto, using(crate::proofs::Places::square, crate::proofs::Tables::filled_more), unfolding(crate::specs::First::filled))]
+    fn begin(&mut self)
+        ensures same { Kept self.old self.new }
+        ensures table { self.new.table.now ≡ filled self.old.tokens (self.old.tokens * self.old.tokens) self.old.table.now }
+    {
+        let n = self.tokens;
+        for t in 0..n * n {
+            self.table[t] = first_word(n, t);
+        }
+    }
+
+    // The word at a, cut by the set d.
+    #[tactic(auto, unfolding(crate::specs::First::cut_by))]
+    fn cut_by(&mut self, a: usize, d: u32)
+        requires { a < length self.old.table.now }
+        ensures same { Kept self.old self.new }
+        ensures table { self.new.table.now ≡ cut_by self.old.table.now a d }
+    {
+        self.table[a] &= d;
+    }
+
+    // A constraint cuts its pair and, by its converse, the reversed one.
+    #[tactic(auto, using(crate::proofs::Places::pair, crate::proofs::Tables::two_cuts))]
+    fn constrain(&mut self, l: usize, r: usize, d: u32)
+        requires { (l < self.old.tokens) × (r < self.old.tokens) }
+        ensures same { Kept self.old self.new }
+        ensures table { self.new.table.now ≡ constrained self.old.tokens l r d self.old.table.now }
+    {
+        let n = self.tokens;
+        let a = l * n + r;
+        let b = r * n + l;
+        let c = composition::converse_set(d);
+        self.cut_by(a, d);
+        self.cut_by(b, c);
+    }
+
+    // The same for the constraint at a place of the sheet.
+    fn constrain_at(&mut self, s: &[u32], at: usize, first: usize)
+        requires { (at < 2 ^ 40) × Seated self.old.tokens first (word s.now at) × Seated self.old.tokens first (word s.now (at + 1)) }
+        ensures same { Kept self.old self.new }
+        ensures table { self.new.table.now ≡ constrained self.old.tokens (word s.now at - first) (word s.now (at + 1) - first) (word s.now (at + 2)) self.old.table.now }
+    {
+        let l = number_at(s, at) - first;
+        let r = number_at(s, at + 1) - first;
+        let d = words::word_at(s, at + 2);
+        self.constrain(l, r, d);
+    }
+
+    // All constraints of an alternative of so many tokens, in turn.
+    fn constrain_all(&mut self, s: &[u32], p: Alternative)
+        requires { (p.tokens ≡ self.old.tokens) × (p.place < 2 ^ 36) × (p.constraints < 2 ^ 32) × AllSeated s.now p }
+        ensures same { Kept self.old self.new }
+        ensures table { self.new.table.now ≡ constrained_all p.tokens p.first (constraints_of s.now p) self.old.table.now }
+    {
+        for i in 0..p.constraints {
+            self.constrain_at(s, p.place + i * 3, p.first);
+        }
     }
 }
 
 // ---- the alternative
 
-// The rule of alternative number a of a sheet.
-fn rule_of(s: &[u32], a: usize) -> usize
-    ensures { (result ≡ rule_of s.now a) × (result < 2 ^ 32) }
-{
-    let n = number_at(s, 6);
-    let base = number_at(s, 7);
-    let mut k: usize = 0;
-    while k < n {
-        let at = base + k * 4;
-        if a < number_at(s, at + 2) + number_at(s, at + 3) {
-            return k;
-        }
-        k += 1;
-    }
-    k
-}
-
 // The number of the first token: 0, the trigger, or 1, the first name, where the rule has none.
+#[tactic(auto, using(crate::proofs::Sheets::first_name, crate::proofs::Sheets::first_trigger), unfolding(crate::specs::Sheet::rule_of))]
 fn first_token(s: &[u32], a: usize) -> usize
     ensures { (result ≡ first_token s.now a) × (result ≤ 1) }
 {
-    let v = number_at(s, number_at(s, 7) + rule_of(s, a) * 4);
+    let v = number_at(s, number_at(s, 7) + layout::rule_of(s, 2, a) * 4);
     if v == Time::NO_LIMIT as usize { 1 } else { 0 }
 }
 
@@ -190,25 +195,23 @@ fn alternative_of(s: &[u32], a: usize) -> Alternative
 
 // Fills the lent table with what the constraints of an alternative leave for every two of its tokens. Refused, the table is
 // untouched.
+#[tactic(auto, using(crate::proofs::Places::square, crate::proofs::Sheets::read, crate::proofs::Sheets::few_of))]
 pub fn narrow(sheet: &[u32], alternative: u32, table: &mut [u32]) -> Answer
     ensures { (numbers_of result ≡ narrowing sheet.now alternative (length table.old)) × (table.new ≡ table_after sheet.now alternative table.old) }
 {
-    let r = book::check(sheet, 2);
-    let fault = answers::numbers_of(r);
-    if fault.number != 0 {
-        return r;
-    }
+    book::check(sheet, 2)?;
     let a = alternative as usize;
     if number_at(sheet, 8) <= a {
-        return Answer::NoSuchAlternative;
+        return Err(Refusal::NoSuchAlternative);
     }
     let p = alternative_of(sheet, a);
     let n = p.tokens;
     if table.len() < n * n {
-        return Answer::TableTooShort;
+        return Err(Refusal::TableTooShort);
     }
-    begin(table, n);
-    constrain_all(sheet, p, table);
-    settle(table, n);
-    Answer::Done { a: 0, b: 0 }
+    let mut sets = Sets { table, tokens: n };
+    sets.begin();
+    sets.constrain_all(sheet, p);
+    sets.settle();
+    Ok(Done { a: 0, b: 0 })
 }

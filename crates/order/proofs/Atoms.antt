@@ -1,54 +1,74 @@
 -- The steps of the pass over table 5: what is asked of all atoms, from those that are left. Assumes nothing.
-use mathlib.Core.Path.{◌≡◌, sym, ◌∙◌}
-use mathlib.Core.Bool.{Bool, true, false, ◌&&◌, not}
+use mathlib.Core.Path.{◌≡◌, refl, sym}
+use mathlib.Core.Bool.{Bool, true, false, ◌&&◌, false≢true}
 use mathlib.Core.List.{List}
-use Prim.Native.Nat.{ℕ, ◌+◌, ◌-◌}
-use borrow.Author.Tests.{eq-eqb, ne_eqb, not-false}
-use Rattle.answers.specs.declared.Numbers.{Numbers}
+use Prim.Native.Nat.{ℕ, zero, suc, ◌+◌, ◌*◌, ◌<◌}
+use native.Mathlib.Omega.{arith}
+use borrow.Author.Tests.{eq-eqb, ne_eqb}
+use Rattle.std.specs.Prelude.{Result, Ok, Err}
+use Rattle.std.specs.Result.{is_ok}
+use Rattle.answers.specs.declared.Done.{Done}
+use Rattle.answers.specs.declared.Refusal.{Refusal}
+use Rattle.answers.specs.Numbers.{numbers_of}
+use Rattle.answers.proofs.Stages.{refused_number, done_number}
 use Rattle.words.specs.Lists.{all}
 use Rattle.words.specs.Runs.{run}
 use Rattle.words.specs.Words.{word}
-use Rattle.layout.proofs.Tests.{not_so}
+use Rattle.words.proofs.Laws.{first_word}
 use Rattle.book.specs.Rules.{atom_at}
 use Rattle.book.specs.Fault.{book_fault}
-use Rattle.choice.proofs.Laws.{run-all-step}
 use Rattle.order.specs.Profile.{timeless, order_bounds, order_atom, all_order, order_only}
 
+-- ---- one atom
+
+-- four words of an atom and what they say of order, as they were read
+pub atom_is : (b : List ℕ) (at w0 w2 w4 w5 : ℕ) (left right bounds : Bool) → w0 ≡ word b (at + 0) → left ≡ timeless w0 → w2 ≡ word b (at + 2) → right ≡ timeless w2
+    → w4 ≡ word b (at + 4) → w5 ≡ word b (at + 5) → bounds ≡ order_bounds w4 w5 → (left && right && bounds) ≡ order_atom (atom_at b at)
+unfolding order_atom atom_at
+atom_is b at w0 w2 w4 w5 left right bounds h0 hl h2 hr h4 h5 hb = rw (hl, hr, hb, h0, first_word b at, h2, h4, h5)
+
+-- ---- the atoms one behind another, by their numbers
+
 module _ (b : List ℕ) where
-  -- the atom at a place, by what was read of it
-  pub atom_is : (k w0 w2 w4 w5 : ℕ) (left right bounds : Bool) → w0 ≡ word b k → left ≡ timeless w0 → w2 ≡ word b (k + 2) → right ≡ timeless w2
-      → w4 ≡ word b (k + 4) → w5 ≡ word b (k + 5) → bounds ≡ order_bounds w4 w5 → (left && right && bounds) ≡ order_atom (atom_at b k)
-  unfolding order_atom atom_at
-  atom_is k w0 w2 w4 w5 left right bounds h0 l h2 r h4 h5 q = cc
+  first : (at : ℕ) (r : Bool) → order_atom (atom_at b (at + 6 * 0)) ≡ r → order_atom (atom_at b at) ≡ r
+  first at r h = let e : at + 6 * 0 ≡ at = omega arith in rw e at h
 
-  -- every atom of n from a place on
-  unfoldable pub order_from : ℕ → ℕ → Bool
-  order_from n at = all order_atom (run (atom_at b) 6 n at)
+  next : (at i : ℕ) (r : Bool) → order_atom (atom_at b (at + 6 * suc i)) ≡ r → order_atom (atom_at b (at + 6 + 6 * i)) ≡ r
+  next at i r h = let e : at + 6 * suc i ≡ at + 6 + 6 * i = omega arith in rw e at h
 
-  pub from_start : (n at : ℕ) → n ≡ word b 12 → at ≡ word b 13 → all_order b ≡ order_from n at
-  unfolding all_order order_from
-  from_start n at h k = rw (h, k)
+  each : (n at : ℕ) → ((i : ℕ) → i < n → order_atom (atom_at b (at + 6 * i)) ≡ true) → all order_atom (run (atom_at b) 6 n at) ≡ true
+  unfolding all run
+  each zero at h = refl
+  each (suc n) at h = rw (first at true (h 0 (omega arith)), each n (at + 6) (λ i l. next at i true (h (suc i) (omega arith))))
 
-  from_step : (n at : ℕ) (r : Bool) → (n ≡ 0 → ⊥) → r ≡ order_atom (atom_at b at) → order_from n at ≡ (r && order_from (n - 1) (at + 6))
-  unfolding order_from
-  from_step n at r h q = run-all-step order_atom (atom_at b) 6 n at r h q
+  one_not : (n at i : ℕ) → i < n → order_atom (atom_at b (at + 6 * i)) ≡ false → all order_atom (run (atom_at b) 6 n at) ≡ false
+  unfolding all run
+  one_not zero at i l h = absurd (omega arith)
+  one_not (suc n) at zero l h = rw (first at false h)
+  one_not (suc n) at (suc i) l h = rw (one_not n (at + 6) i (omega arith) (next at i false h)) (no (order_atom (atom_at b at)))
+    where
+      no : (r : Bool) → (r && false) ≡ false
+      no true = refl
+      no false = refl
 
-  -- the first of them isn't such, or is
-  pub from_miss : (n at : ℕ) (r : Bool) → (n ≡ 0 → ⊥) → r ≡ order_atom (atom_at b at) → not r ≡ true → order_from n at ≡ false
-  from_miss n at r h q e = from_step n at r h q ∙ rw ((not_so r).0 e)
+  -- each of table 5 is such, or one isn't
+  module _ (n at : ℕ) (many : n ≡ word b 12) (there : at ≡ word b 13) where
+    pub all_such : ((i : ℕ) → i < n → order_atom (atom_at b (at + 6 * i)) ≡ true) → true ≡ all_order b
+    unfolding all_order
+    all_such h = sym (rw (← many, ← there) (each n at h))
 
-  pub from_pass : (n at : ℕ) (r : Bool) → (n ≡ 0 → ⊥) → r ≡ order_atom (atom_at b at) → not r ≡ false → order_from n at ≡ order_from (n - 1) (at + 6)
-  from_pass n at r h q e = from_step n at r h q ∙ rw (not-false r e)
+    pub one_other : (i : ℕ) → i < n → order_atom (atom_at b (at + 6 * i)) ≡ false → false ≡ all_order b
+    unfolding all_order
+    one_other i l h = sym (rw (← many, ← there) (one_not n at i l h))
 
-  pub from-none : (n at : ℕ) → n ≡ 0 → order_from n at ≡ true
-  unfolding order_from all run
-  from-none n at h = rw h
+  -- ---- a book that has a fault, and one that hasn't: r is what `check` answered
 
-  -- a book with a fault, and one without: x is what `check` answered, and r the same
-  pub refused : (x r : Numbers) → x ≡ book_fault 1 b → r ≡ x → (r.number ≡ 0 → ⊥) → false ≡ order_only b
+  pub passed : (r : Result Done Refusal) → numbers_of r ≡ book_fault 1 b → is_ok r ≡ true → all_order b ≡ order_only b
   unfolding order_only
-  refused x r h k f = let e : book_fault 1 b ≡ r = sym (k ∙ h) in rw (e, ne_eqb r.number 0 f)
+  passed (Ok d) h e = rw (eq-eqb (book_fault 1 b).number 0 (done_number d _ h))
+  passed (Err r) h e = absurd (false≢true e)
 
-  pub passed : (x r : Numbers) (a : Bool) → x ≡ book_fault 1 b → r ≡ x → r.number ≡ 0 → a ≡ all_order b → a ≡ order_only b
+  pub refused : (r : Result Done Refusal) → numbers_of r ≡ book_fault 1 b → is_ok r ≡ false → false ≡ order_only b
   unfolding order_only
-  passed x r a h k z q = let e : book_fault 1 b ≡ r = sym (k ∙ h) in rw (e, eq-eqb r.number 0 z) q
+  refused (Err r) h e = rw (ne_eqb (book_fault 1 b).number 0 (refused_number r _ h))
+  refused (Ok d) h e = absurd (false≢true (sym e))

@@ -14,32 +14,6 @@ use Rattle.sweep.specs.Sweeps.{Moments}
 use Rattle.sweep.proofs.Ranks.{rank_rises, rank_higher}
 use Rattle.order.specs.Numbered.{FirstFrom}
 
--- the times from number k to i are before t
-pub record Before (ts : List ℕ) (last k t i : ℕ) : Type 0 where
-  pub from : k ≤ i
-  pub within : i ≤ last
-  pub before : (j : ℕ) → k ≤ j → j < i → word ts j < t
-
-module _ (ts : List ℕ) (last k t : ℕ) where
-  pub before-none : k ≤ last → Before ts last k t k
-  before-none l = record { from = omega arith; within = l; before = λ j a b. absurd (omega arith) }
-
-  pub before_more : (i w : ℕ) → Before ts last k t i → i < last → w ≡ word ts i → w < t → Before ts last k t (i + 1)
-  before_more i w h l e m =
-      record {
-        from = omega (arith, h.from);
-        within = omega arith;
-        before = λ j a b.
-            let le : j ≤ i = omega arith in
-            ⊎_elim (λ (q : j ≡ i). rw q (omega arith)) (λ q. h.before j a q) (eq-or-lt_of_le le);
-      }
-
-  pub before_here : (i w : ℕ) → Before ts last k t i → i < last → w ≡ word ts i → t ≤ w → FirstFrom ts last k t i
-  before_here i w h l e m = record { from = h.from; within = h.within; before = h.before; here = λ q. omega arith }
-
-  pub before_last : (i : ℕ) → Before ts last k t i → last ≤ i → FirstFrom ts last k t i
-  before_last i h l = record { from = h.from; within = h.within; before = h.before; here = λ q. absurd (omega arith) }
-
 -- ranks rise with time
 pub rank_le : (lines : List (List Token)) (s t : ℕ) → s ≤ t → rank lines s ≤ rank lines t
 rank_le lines s t l = let e : s + (t - s) ≡ t = omega arith in rw e at (rank_rises lines s (t - s))

@@ -14,11 +14,13 @@ ghost use Rattle.sweep.specs.Sweeps.{Sweeps, Moments};
 ghost use Rattle.verdict.specs.Judged.{examined};
 ghost use Rattle.verdict.specs.Survey.{placed_rules, placed_fault};
 
-use answers::Answer;
+use answers::{Answer, Refusal};
 use clock::Time;
-use words::{number_at, word_at};
+use words::{Record, number_at, word_at};
 
-// Whether a term of this kind is no fixed time: neither a time point nor the end of the plan.
+// Whether a term of this kind is no fixed time: neither a time point nor the end of the plan. The kind is any word of a book, as `timeless`
+// has it, and no enum.
+#[tactic(auto, unfolding(crate::specs::Profile::timeless))]
 fn timeless(kind: u32) -> bool
     ensures { result ≡ timeless kind }
 {
@@ -26,6 +28,7 @@ fn timeless(kind: u32) -> bool
 }
 
 // Whether these bounds say no more than "not after", "before" or "at".
+#[tactic(auto, unfolding(crate::specs::Profile::order_bounds))]
 fn order_bounds(lower: u32, upper: u32) -> bool
     ensures { result ≡ order_bounds lower upper }
 {
@@ -34,14 +37,13 @@ fn order_bounds(lower: u32, upper: u32) -> bool
         | ((lower == 0) & (upper == 0))
 }
 
-// Whether the atom at a place speaks only of order.
-fn order_atom(b: &[u32], place: usize) -> bool
-    requires { place < 2 ^ 60 }
-    ensures { result ≡ order_atom (atom_at b.now place) }
+// Whether an atom speaks only of order.
+fn order_atom(atom: Record) -> bool
+    ensures { result ≡ order_atom (atom_at atom.entry.words.now atom.entry.place) }
 {
-    let left = timeless(word_at(b, place));
-    let right = timeless(word_at(b, place + 2));
-    let bounds = order_bounds(word_at(b, place + 4), word_at(b, place + 5));
+    let left = timeless(atom.word(0));
+    let right = timeless(atom.word(2));
+    let bounds = order_bounds(atom.word(4), atom.word(5));
     left & right & bounds
 }
 
@@ -49,14 +51,15 @@ fn order_atom(b: &[u32], place: usize) -> bool
 fn all_order(b: &[u32]) -> bool
     ensures { result ≡ all_order b.now }
 {
-    let mut left = word_at(b, 12);
-    let mut place = number_at(b, 13);
-    while left != 0 {
-        if !order_atom(b, place) {
+    let first = number_at(b, 13);
+    for i in 0..number_at(b, 12) {
+        let atom = Record {
+            words: b,
+            place: first + 6 * i,
+        };
+        if !order_atom(atom) {
             return false;
         }
-        place += 6;
-        left -= 1;
     }
     true
 }
@@ -65,10 +68,7 @@ fn all_order(b: &[u32]) -> bool
 pub fn order_only(book: &[u32]) -> bool
     ensures { result ≡ order_only book.now }
 {
-    if answers::numbers_of(book::check(book, 1)).number != 0 {
-        return false;
-    }
-    all_order(book)
+    book::check(book, 1).is_ok() && all_order(book)
 }
 
 // The number of the first time from number k on that isn't before t, or of the last one.
@@ -76,14 +76,7 @@ fn number_from(times: &[u32], last: usize, k: usize, t: u32) -> usize
     requires { (k ≤ last) × (last < 2 ^ 60) }
     ensures { FirstFrom times.now last k t result }
 {
-    let mut i = k;
-    while i < last {
-        if word_at(times, i) >= t {
-            return i;
-        }
-        i += 1;
-    }
-    i
+    (k..last).find(|i| word_at(times, *i) >= t).unwrap_or(last)
 }
 
 // Puts the durations by rank of line v into the room, which has the plan's words. The times are all endpoints in order.
@@ -93,17 +86,14 @@ fn rank_line(p: &[u32], times: &[u32], last: usize, room: &mut [u32], v: usize)
 {
     let w = lines::token_width(p);
     let first = sweep::first_stand(p, v);
-    let mut place = first.place;
-    let mut left = first.left;
     let mut end: u32 = 0;
     let mut k = 0;
-    while left != 0 {
+    for i in 0..first.left as usize {
+        let place = first.place + w * i;
         end += word_at(p, place + 1);
         let r = number_from(times, last, k, end);
         room[place + 1] = (r - k) as u32;
         k = r;
-        place += w;
-        left -= 1;
     }
 }
 
@@ -112,11 +102,8 @@ fn rank_lines(p: &[u32], times: &[u32], last: usize, room: &mut [u32])
     requires { Sweeps p.now × Moments p.now times.now last × (last < 8192) × (room.old ≡ p.now) }
     ensures { room.new ≡ ranked_plan p.now }
 {
-    let n = number_at(p, 2);
-    let mut v = 0;
-    while v < n {
+    for v in 0..number_at(p, 2) {
         rank_line(p, times, last, room, v);
-        v += 1;
     }
 }
 
@@ -137,7 +124,7 @@ fn examine_ranked(book: &[u32], plan: &[u32]) -> Answer
 {
     let mut room = [0u32; 16384];
     let m = plan.len();
-    words::put_words(plan, 0, m, &mut room, 0);
+    room[..m].copy_from_slice(plan);
     rank_plan(plan, &mut room[..m]);
     verdict::examine(1, book, &room[..m])
 }
@@ -146,16 +133,10 @@ fn examine_ranked(book: &[u32], plan: &[u32]) -> Answer
 pub fn judge_by_order(book: &[u32], plan: &[u32]) -> Answer
     ensures { numbers_of result ≡ judged_by_order book.now plan.now }
 {
-    let first = book::check(book, 1);
-    if answers::numbers_of(first).number != 0 {
-        return first;
-    }
+    book::check(book, 1)?;
     if !all_order(book) {
-        return Answer::NotOrderOnly;
+        return Err(Refusal::NotOrderOnly);
     }
-    let second = plan::check(book, plan);
-    if answers::numbers_of(second).number != 0 {
-        return second;
-    }
+    plan::check(book, plan)?;
     examine_ranked(book, plan)
 }

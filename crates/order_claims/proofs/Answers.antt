@@ -7,9 +7,8 @@ use Prim.Native.Nat.{ℕ}
 use native.Mathlib.Decide.{ℕ_discrete}
 use native.Mathlib.Omega.{arith}
 use borrow.Author.Tests.{eq-eqb}
-use Rattle.answers.specs.declared.Answer.{Answer}
 use Rattle.answers.specs.declared.Numbers.{Numbers}
-use Rattle.answers.specs.Numbers.{numbers_of, numbers}
+use Rattle.answers.specs.Numbers.{Answer, numbers_of, numbers}
 use Rattle.answers.proofs.Stages.{else_fault, else_next}
 use Rattle.answers.proofs.OneCase.{one_answer}
 use Rattle.book.specs.Fault.{book_fault}

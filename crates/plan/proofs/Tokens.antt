@@ -1,8 +1,8 @@
--- A token's fault number: 0 where all four tests are passed, and else one of 8 to 11. Assumes nothing.
+-- A token's fault number: 0 where all four tests are passed, and else that of the first that fails. Assumes nothing.
 use mathlib.Core.Path.{◌≡◌, refl}
-use mathlib.Core.Bool.{Bool, true, false, ◌&&◌, not, cond}
+use mathlib.Core.Bool.{Bool, true, false, ◌&&◌, not}
 use mathlib.Core.List.{List}
-use Prim.Native.Nat.{ℕ, ◌+◌, ◌-◌, ◌≤◌}
+use Prim.Native.Nat.{ℕ, ◌+◌, ◌-◌}
 use native.Mathlib.Omega.{arith}
 use lib.Dec.{ltb, eqb}
 use borrow.Author.Tests.{ltb-true, eqb-false, not-true}
@@ -22,29 +22,6 @@ passes false false true late h = absurd (omega arith)
 passes false false false true h = absurd (omega arith)
 passes false false false false h = (refl, refl, refl, refl)
 
--- and otherwise one of 8 to 11
-ranges : (unknown outside breaks late : Bool) → (number_of unknown outside breaks late ≡ 0 → ⊥)
-    → (8 ≤ number_of unknown outside breaks late) × (number_of unknown outside breaks late ≤ 11)
-ranges true outside breaks late h = omega arith
-ranges false true breaks late h = omega arith
-ranges false false true late h = omega arith
-ranges false false false true h = omega arith
-ranges false false false false h = absurd (h refl)
-
--- without the last test: another number than 0 is the number, and 0 leaves it to that test
-early : (unknown outside breaks late : Bool) → (number_of unknown outside breaks false ≡ 0 → ⊥)
-    → number_of unknown outside breaks false ≡ number_of unknown outside breaks late
-early true outside breaks late h = refl
-early false true breaks late h = refl
-early false false true late h = refl
-early false false false late h = absurd (h refl)
-
-last : (unknown outside breaks late : Bool) → number_of unknown outside breaks false ≡ 0 → number_of unknown outside breaks late ≡ cond late 11 0
-last true outside breaks late h = absurd (omega arith)
-last false true breaks late h = absurd (omega arith)
-last false false true late h = absurd (omega arith)
-last false false false late h = refl
-
 module _ (b p : List ℕ) (v j : ℕ) where
   -- the four tests of token j of line v
   abbrev pub unknown_at : Bool
@@ -63,21 +40,26 @@ module _ (b p : List ℕ) (v j : ℕ) where
   unfolding token_fault
   token-passes = passes unknown_at outside_at breaks_at late_at
 
-  pub token-ranges : (token_fault b p v j ≡ 0 → ⊥) → (8 ≤ token_fault b p v j) × (token_fault b p v j ≤ 11)
+  -- the first test that fails says which number it is
+  pub token-8 : unknown_at ≡ true → token_fault b p v j ≡ 8
   unfolding token_fault
-  token-ranges = ranges unknown_at outside_at breaks_at late_at
+  token-8 e = rw e
 
-  -- the number of its first three tests
-  abbrev pub early_at : ℕ
-  early_at = number_of unknown_at outside_at breaks_at false
-
-  pub token-early : (early_at ≡ 0 → ⊥) → early_at ≡ token_fault b p v j
+  pub token-9 : unknown_at ≡ false → outside_at ≡ true → token_fault b p v j ≡ 9
   unfolding token_fault
-  token-early = early unknown_at outside_at breaks_at late_at
+  token-9 e f = rw (e, f)
 
-  pub token-last : early_at ≡ 0 → token_fault b p v j ≡ cond late_at 11 0
+  pub token-10 : unknown_at ≡ false → outside_at ≡ false → breaks_at ≡ true → token_fault b p v j ≡ 10
   unfolding token_fault
-  token-last = last unknown_at outside_at breaks_at late_at
+  token-10 e f g = rw (e, f, g)
+
+  pub token-11 : unknown_at ≡ false → outside_at ≡ false → breaks_at ≡ false → late_at ≡ true → token_fault b p v j ≡ 11
+  unfolding token_fault
+  token-11 e f g h = rw (e, f, g, h)
+
+  pub token-0 : unknown_at ≡ false → outside_at ≡ false → breaks_at ≡ false → late_at ≡ false → token_fault b p v j ≡ 0
+  unfolding token_fault
+  token-0 e f g h = rw (e, f, g, h)
 
 -- the first faulty token of a wrong line has a fault
 pub bad_token : (b p : List ℕ) (v : ℕ) → line_wrong b p v ≡ true → token_fault b p v (first_token b p v) ≡ 0 → ⊥

@@ -1,11 +1,13 @@
--- What the code of `plan` computes on the way to a token's fault: a line's constants, and a token's fault from plain numbers. Assumes nothing.
-use Rattle.std.specs.Prelude.{◌≡◌, Bool, false, ◌&&◌, not, cond, List, ℕ, ◌+◌, ◌*◌, ◌^◌, ◌≤◌, ◌<◌, leb, length}
+-- What the code of `plan` computes on the way to a line's fault: the line's constants, a token's value and its tests. Assumes nothing.
+use Rattle.std.specs.Prelude.{◌≡◌, Bool, Option, Some, None, ◌&&◌, not, cond, List, ℕ, ◌+◌, ◌*◌, ◌^◌, ◌≤◌, ◌<◌, leb, length}
+use Rattle.answers.specs.declared.Numbers.{Numbers}
+use Rattle.answers.specs.Numbers.{no_fault}
 use Rattle.words.specs.Words.{word, in_set}
 use Rattle.layout.specs.Layout.{count, offset, field, values_of}
 use Rattle.lines.specs.Lines.{line_count, token_width, line_place}
 use Rattle.plan.specs.declared.Line.{Line}
 use Rattle.plan.specs.declared.Value.{Value}
-use Rattle.plan.specs.Fault.{outside_of, token_fault, first_token, line_wrong}
+use Rattle.plan.specs.Fault.{line_wrong, line_fault}
 
 -- the first `inside` of a variable's values, 3 words each from a place on, are wholly in the book
 pub record Inside (b : List ℕ) (base values inside : ℕ) : Type 0 where
@@ -25,9 +27,13 @@ pub record Constants (b p : List ℕ) (v : ℕ) (r : Line) : Type 0 where
 abbrev pub Within : List ℕ → List ℕ → Type 0
 Within b p = (v : ℕ) → v < count b 0 → line_place p v + token_width p * line_count p v ≤ length p
 
--- value x at a place of the book, of a variable with `values` values
-abbrev pub value_at : List ℕ → ℕ → ℕ → ℕ → Value
-value_at b values at x = record { unknown = leb values x; least = word b at; greatest = word b (at + 1); next = word b (at + 2) }
+-- the value at a place of the book
+abbrev pub value_there : List ℕ → ℕ → Value
+value_there b at = record { least = word b at; greatest = word b (at + 1); next = word b (at + 2) }
+
+-- value x, at a place of the book, of a variable with `values` values; none where that lacks it
+abbrev pub value_at : List ℕ → ℕ → ℕ → ℕ → Option Value
+value_at b values at x = cond (leb values x) None (Some (value_there b at))
 
 unfoldable pub breaks_of : Bool → ℕ → ℕ → Bool
 breaks_of first set x = not first && not (in_set set x)
@@ -36,10 +42,6 @@ breaks_of first set x = not first && not (in_set set x)
 abbrev pub number_of : Bool → Bool → Bool → Bool → ℕ
 number_of unknown outside breaks late = cond unknown 8 (cond outside 9 (cond breaks 10 (cond late 11 0)))
 
--- the fault of a token with value x and duration d, behind a token with the successor set `set` or the first, but for its end
-unfoldable pub fault_of : Value → ℕ → ℕ → Bool → ℕ → ℕ
-fault_of value x d first set = number_of value.unknown (outside_of value.least value.greatest d) (breaks_of first set x) false
-
--- the fault number of line v: that of its first faulty token, or 0
-unfoldable pub line_number : List ℕ → List ℕ → ℕ → ℕ
-line_number b p v = cond (line_wrong b p v) (token_fault b p v (first_token b p v)) 0
+-- the answer of line v: the fault of its first faulty token, or none
+unfoldable pub line_answer : List ℕ → List ℕ → ℕ → Numbers
+line_answer b p v = cond (line_wrong b p v) (line_fault b p v) no_fault

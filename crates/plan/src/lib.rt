@@ -2,13 +2,13 @@
 #![tactic(auto)]
 
 ghost use Rattle.std.specs.Prelude.{◌≡◌, ◌+◌, ◌*◌, ◌≤◌, ◌<◌, ◌^◌, length};
-ghost use Rattle.answers.specs.Numbers.{numbers, numbers_of};
+ghost use Rattle.answers.specs.Numbers.{numbers_of};
 ghost use Rattle.lines.specs.Lines.{line_count, token_width, line_place};
-ghost use Rattle.plan.specs.Fault.{outside_of, first_token, tokens_fault, plan_fault};
-ghost use Rattle.plan.specs.Judge.{Inside, Constants, Within, value_at, breaks_of, fault_of, line_number};
+ghost use Rattle.plan.specs.Fault.{outside_of, tokens_fault, plan_fault};
+ghost use Rattle.plan.specs.Judge.{Inside, Constants, Within, value_at, breaks_of, line_answer};
 
-use answers::Answer;
-use clock::{Later, Time};
+use answers::{Answer, Done, Refusal};
+use clock::Time;
 
 // What the tokens of a line are read by: their place and number, how many values the line's variable has, where the book has the
 // first of them, and how many of them the book wholly has.
@@ -21,20 +21,12 @@ struct Line {
     inside: u32,
 }
 
-// A value, as the book has it: whether the variable lacks it, its least and greatest duration, and its successor set.
+// A value, as the book has it: its least and greatest duration, and its successor set.
 #[derive(Clone, Copy)]
 struct Value {
-    unknown: bool,
     least: u32,
     greatest: u32,
     next: u32,
-}
-
-// The fault number of a line's first faulty token, and which token it is; 0 where all are right.
-#[derive(Clone, Copy)]
-struct Found {
-    number: u32,
-    token: u32,
 }
 
 // Whether a duration, which is a difference from 0, is outside the bounds of its value.
@@ -47,29 +39,11 @@ fn outside(least: u32, greatest: u32, d: u32) -> bool
 }
 
 // Whether a value may not stand where it does: any may stand first, and later those in the set of the token before.
+#[tactic(auto, unfolding(crate::specs::Judge::breaks_of))]
 fn breaks(first: bool, set: u32, x: u32) -> bool
     ensures { result ≡ breaks_of first set x }
 {
-    if first {
-        return false;
-    }
-    !words::in_set(set, x)
-}
-
-// What is wrong with a token but for its end: 8, 9 or 10, in this order, or 0.
-fn token_fault(value: Value, x: u32, d: u32, first: bool, set: u32) -> u32
-    ensures { result ≡ fault_of value x d first set }
-{
-    if value.unknown {
-        return 8;
-    }
-    if outside(value.least, value.greatest, d) {
-        return 9;
-    }
-    if breaks(first, set, x) {
-        return 10;
-    }
-    0
+    !first && !words::in_set(set, x)
 }
 
 // How many of the values, all of them or none, the book has wholly from a place on.
@@ -104,114 +78,76 @@ fn line_of(book: &[u32], plan: &[u32], v: usize) -> Line
     }
 }
 
-// Value x of the line's variable. A good book has it wholly; what lies past the end of another is 0.
-fn value_of(book: &[u32], line: Line, x: u32) -> Value
+// Value x of the line's variable, or none where the variable lacks it. A good book has it wholly; what lies past the end of another is 0.
+fn value_of(book: &[u32], line: Line, x: u32) -> Option<Value>
     requires { (line.base < 2 ^ 36) × Inside book.now line.base line.values line.inside }
     ensures { result ≡ value_at book.now line.values (line.base + x * 3) x }
 {
     let at = line.base + (x as usize) * 3;
     if x < line.inside {
-        let least = book[at];
-        let greatest = book[at + 1];
-        let next = book[at + 2];
-        return Value {
-            unknown: false,
-            least,
-            greatest,
-            next,
-        };
+        return Some(Value {
+            least: book[at],
+            greatest: book[at + 1],
+            next: book[at + 2],
+        });
     }
-    Value {
-        unknown: line.values <= x,
+    if line.values <= x {
+        return None;
+    }
+    Some(Value {
         least: words::word_at(book, at),
         greatest: words::word_at(book, at + 1),
         next: words::word_at(book, at + 2),
-    }
+    })
 }
 
-// The first faulty token of line v, with its fault. The running start and the successor set of the token before are carried along.
-fn line_fault(book: &[u32], plan: &[u32], v: usize) -> Found
-    requires { (v < 2 ^ 32) × (line_place plan.now v + token_width plan.now * line_count plan.now v ≤ length plan.now) }
-    ensures { (result.number ≡ line_number book.now plan.now v) × (result.token ≡ first_token book.now plan.now v) }
+// What is wrong with the first faulty token of a line. The running start and the successor set of the token before are carried along.
+fn line_fault(book: &[u32], plan: &[u32], timeline: u32) -> Answer
+    requires { line_place plan.now timeline + token_width plan.now * line_count plan.now timeline ≤ length plan.now }
+    ensures { numbers_of result ≡ line_answer book.now plan.now timeline }
 {
     let width = lines::token_width(plan);
-    let line = line_of(book, plan, v);
-    let place = line.place;
-    let tokens = line.tokens;
-    let mut j: u32 = 0;
+    let line = line_of(book, plan, timeline as usize);
     let mut start = Time { tick: 0 };
     let mut set: u32 = 0;
-    while j < tokens {
-        let at = place + lines::words_of(width, j as usize);
+    for token in 0..line.tokens {
+        let at = line.place + lines::words_of(width, token as usize);
         let x = plan[at];
         let d = plan[at + 1];
-        let value = value_of(book, line, x);
-        let number = token_fault(value, x, d, j == 0, set);
-        if number != 0 {
-            return Found { number, token: j };
+        let Some(value) = value_of(book, line, x) else {
+            return Err(Refusal::ValueUnknown { timeline, token });
+        };
+        if outside(value.least, value.greatest, d) {
+            return Err(Refusal::DurationOutside { timeline, token });
         }
-        let later = start.plus(d);
-        let Later::At(end) = later else {
-            return Found {
-                number: 11,
-                token: j,
-            };
+        if breaks(token == 0, set, x) {
+            return Err(Refusal::NotSuccessor { timeline, token });
+        }
+        let Some(end) = start.plus(d) else {
+            return Err(Refusal::PastLastTick { timeline, token });
         };
         start = end;
         set = value.next;
-        j += 1;
     }
-    Found {
-        number: 0,
-        token: j,
-    }
+    Ok(Done { a: 0, b: 0 })
 }
 
-// The answer for a token's fault number.
-fn answer_of(number: u32, timeline: u32, token: u32) -> Answer
-    requires { (8 ≤ number) × (number ≤ 11) }
-    ensures { numbers_of result ≡ numbers number timeline token }
-{
-    if number == 8 {
-        return Answer::ValueUnknown { timeline, token };
-    }
-    if number == 9 {
-        return Answer::DurationOutside { timeline, token };
-    }
-    if number == 10 {
-        return Answer::NotSuccessor { timeline, token };
-    }
-    Answer::PastLastTick { timeline, token }
-}
-
-// The first faulty token of the first line that has one.
+// What is wrong with the first faulty token of the first line that has one.
 fn check_tokens(book: &[u32], plan: &[u32]) -> Answer
     requires { Within book.now plan.now }
     ensures { numbers_of result ≡ tokens_fault book.now plan.now }
 {
-    let n = words::word_at(book, 2);
-    let mut v: u32 = 0;
-    while v < n {
-        let found = line_fault(book, plan, v as usize);
-        if found.number != 0 {
-            return answer_of(found.number, v, found.token);
-        }
-        v += 1;
+    for v in 0..words::word_at(book, 2) {
+        line_fault(book, plan, v)?;
     }
-    Answer::Done { a: 0, b: 0 }
+    Ok(Done { a: 0, b: 0 })
 }
 
 // What is wrong with the plan, given the book: the first of answers 5 to 11 and 18 that fits, or no fault.
 pub fn check(book: &[u32], plan: &[u32]) -> Answer
     ensures { numbers_of result ≡ plan_fault book.now plan.now }
 {
-    let first = lines::check(book, plan);
-    if answers::numbers_of(first).number != 0 {
-        return first;
-    }
-    let second = check_tokens(book, plan);
-    if answers::numbers_of(second).number != 0 {
-        return second;
-    }
+    lines::check(book, plan)?;
+    check_tokens(book, plan)?;
     lines::check_ends(book, plan)
 }

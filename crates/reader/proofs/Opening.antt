@@ -1,10 +1,13 @@
 -- Opening a reader over one timeline: what is wrong, and where the reader then stands. Assumes nothing.
-use mathlib.Core.Path.{◌≡◌, ◌∙◌}
+use mathlib.Core.Path.{◌≡◌, sym, ◌∙◌}
 use mathlib.Core.List.{List}
 use Prim.Native.Nat.{ℕ, ◌≤◌, ◌<◌}
 use borrow.Author.Tests.{ltb-true, lt-ltb, le-ltb, eq-eqb, ne_eqb}
-use Rattle.answers.specs.Numbers.{numbers, no_fault}
-use Rattle.answers.proofs.Stages.{else_fault, else_next, stages, held}
+use Rattle.std.specs.Prelude.{Ok, Err}
+use Rattle.answers.specs.declared.Done.{Done}
+use Rattle.answers.specs.declared.Refusal.{Refusal}
+use Rattle.answers.specs.Numbers.{numbers, numbers_of, no_fault}
+use Rattle.answers.proofs.Stages.{else_fault, else_next, stages, held, refused_number, done_number}
 use Rattle.clock.specs.Clock.{no_limit}
 use Rattle.layout.specs.Layout.{count}
 use Rattle.book.specs.Fault.{book_fault}
@@ -52,3 +55,10 @@ module _ (b p : List ℕ) (line : ℕ) where
   pub line_refused : (book_fault 1 b).number ≡ 0 → (plan_fault b p).number ≡ 0 → count b 0 ≤ line → open_fault b p line ≡ numbers 17 0 0
   unfolding open_fault line_fault
   line_refused h g l = else_next _ _ h ∙ else_next _ _ g ∙ rw (le-ltb line (count b 0) l)
+
+  -- where it stands, by what it answers
+  pub done_at : (d : Done) → numbers_of (Ok d) ≡ open_fault b p line → position line 0 0 ≡ open_at b p line
+  done_at d h = sym (opened_at (done_number d _ h))
+
+  pub nowhere_at : (r : Refusal) → numbers_of (Err r) ≡ open_fault b p line → position line no_limit 0 ≡ open_at b p line
+  nowhere_at r h = sym (refused_at (refused_number r _ h))

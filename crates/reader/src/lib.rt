@@ -6,10 +6,10 @@ ghost use Rattle.answers.specs.Numbers.{numbers_of};
 ghost use Rattle.lines.specs.Walk.{step_of};
 ghost use Rattle.reader.specs.Opening.{open_fault, open_at};
 
-use answers::Answer;
+use answers::{Answer, Done, Refusal};
 use lines::{Position, Step};
 
-// What opening gives: the answer, and where the reader stands.
+// What opening gives: the answer, and where the reader stands. It is no Result: refused, `open` says where the reader stands too.
 #[derive(Clone, Copy)]
 pub struct Opened {
     pub answer: Answer,
@@ -23,35 +23,29 @@ pub struct Reader<'a> {
     pub at: Position,
 }
 
+// What is wrong with the book, with the plan, or with the line, in this order.
+fn check(book: &[u32], plan: &[u32], line: u32) -> Answer
+    ensures { numbers_of result ≡ open_fault book.now plan.now line }
+{
+    book::check(book, 1)?;
+    plan::check(book, plan)?;
+    if words::word_at(book, 2) <= line {
+        return Err(Refusal::NoSuchTimeline);
+    }
+    Ok(Done { a: 0, b: 0 })
+}
+
 // Opens timeline `line` of a plan: what is wrong with the book, with the plan, or with the line, and where to read from.
 pub fn open(book: &[u32], plan: &[u32], line: u32) -> Opened
     ensures answer_value { numbers_of result.answer ≡ open_fault book.now plan.now line }
     ensures at_value { result.at ≡ open_at book.now plan.now line }
 {
-    let of_book = book::check(book, 1);
-    if answers::numbers_of(of_book).number != 0 {
-        return Opened {
-            answer: of_book,
-            at: Position::nowhere(line),
-        };
-    }
-    let of_plan = plan::check(book, plan);
-    if answers::numbers_of(of_plan).number != 0 {
-        return Opened {
-            answer: of_plan,
-            at: Position::nowhere(line),
-        };
-    }
-    if words::word_at(book, 2) <= line {
-        return Opened {
-            answer: Answer::NoSuchTimeline,
-            at: Position::nowhere(line),
-        };
-    }
-    Opened {
-        answer: Answer::Done { a: 0, b: 0 },
-        at: Position::at_start(line),
-    }
+    let answer = check(book, plan, line);
+    let at = match answer {
+        Ok(_) => Position::at_start(line),
+        Err(_) => Position::nowhere(line),
+    };
+    Opened { answer, at }
 }
 
 impl<'a> Reader<'a> {

@@ -2,45 +2,20 @@
 use mathlib.Core.Path.{◌≡◌, refl, sym}
 use mathlib.Core.Bool.{Bool, true, false, not}
 use mathlib.Core.List.{List, [], ◌∷◌, flat_map, append-nil}
-use Prim.Native.Nat.{ℕ, ◌+◌, ◌-◌, ◌≤◌, ◌<◌}
+use Prim.Native.Nat.{ℕ, ◌+◌, ◌-◌}
 use native.Mathlib.Nat.{add-zero}
 use native.Mathlib.Omega.{arith}
 use lib.ListN.{length, set}
-use borrow.Author.Tests.{eq-eqb, ne_eqb, le-leb, lt-leb}
+use borrow.Author.Tests.{eq-eqb, ne_eqb}
 use Rattle.words.specs.Words.{word}
 use Rattle.words.specs.Write.{Wrote}
 use Rattle.words.proofs.Write.{none}
-use Rattle.clock.specs.Clock.{no_limit}
 use Rattle.event_list.specs.Events.{plan_token}
 use Rattle.event_list.specs.Words.{action_width}
 use Rattle.event_list.specs.Plans.{token_words, line_words}
 use Rattle.event_list.specs.Reading.{action_job, ends_here, add_ticks, next_place, next_left, next_ticks, closes, closed}
 use Rattle.reading.specs.declared.Pass.{Pass}
 use Rattle.reading.specs.Pass.{step, closes_at, closed_at}
-
-pub wide : (e : ℕ) → e ≡ 2 → 4 ≡ action_width e
-unfolding action_width
-wide e h = rw (eq-eqb _ _ h)
-
-pub narrow : (e : ℕ) → (e ≡ 2 → ⊥) → 3 ≡ action_width e
-unfolding action_width
-narrow e h = rw (ne_eqb _ _ h)
-
-pub job-some : (w : List ℕ) (place e : ℕ) → e ≡ word w 0 → e ≡ 2 → word w (place + 3) ≡ action_job w place
-unfolding action_job
-job-some w place e q h = rw (← q, eq-eqb _ _ h)
-
-pub job-none : (w : List ℕ) (place e : ℕ) → e ≡ word w 0 → (e ≡ 2 → ⊥) → 0 ≡ action_job w place
-unfolding action_job
-job-none w place e q h = rw (← q, ne_eqb _ _ h)
-
-pub ticks_sum : (a b : ℕ) → a + b ≤ no_limit → a + b ≡ add_ticks a b
-unfolding add_ticks
-ticks_sum a b h = rw (le-leb _ _ h)
-
-pub ticks_most : (a b : ℕ) → no_limit < a + b → no_limit ≡ add_ticks a b
-unfolding add_ticks
-ticks_most a b h = rw (lt-leb _ _ h)
 
 -- ---- a step
 
@@ -73,13 +48,13 @@ module _ (w : List ℕ) (x : ℕ) (p : Pass) where
 -- ---- a token is put
 
 module _ (value ticks job at : ℕ) (l : List ℕ) {e e₀ : ℕ} {m n : List ℕ} (is : e ≡ e₀) where
-  pub put-wide : {k : List ℕ} → e ≡ 2 → m ≡ set l at value → n ≡ set m (at + 1) ticks → k ≡ set n (at + 1 + 1) job
-      → Wrote l k at (at + 1 + 1 + 1) (token_words e₀ (plan_token value ticks job))
+  pub put-wide : {k : List ℕ} → e ≡ 2 → m ≡ set l at value → n ≡ set m (at + 1) ticks → k ≡ set n (at + 2) job
+      → Wrote l k at (at + 3) (token_words e₀ (plan_token value ticks job))
   unfolding token_words
-  put-wide h a b c = record { same = rw (← is, eq-eqb e 2 h, c, b, a); next = rw (← is, eq-eqb e 2 h) (omega arith) }
+  put-wide h a b c = let third : at + 2 ≡ at + 1 + 1 = omega arith in record { same = rw (← is, eq-eqb e 2 h, c, third, b, a); next = rw (← is, eq-eqb e 2 h) (omega arith) }
 
   pub put_narrow : (e ≡ 2 → ⊥) → m ≡ set l at value → n ≡ set m (at + 1) ticks
-      → Wrote l n at (at + 1 + 1) (token_words e₀ (plan_token value ticks job))
+      → Wrote l n at (at + 2) (token_words e₀ (plan_token value ticks job))
   unfolding token_words
   put_narrow h a b = record { same = rw (← is, ne_eqb e 2 h, b, a); next = rw (← is, ne_eqb e 2 h) (omega arith) }
 

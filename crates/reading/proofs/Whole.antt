@@ -8,7 +8,7 @@ use Rattle.words.specs.Words.{word}
 use Rattle.words.specs.Runs.{run}
 use Rattle.words.proofs.Runs.{length_run}
 use Rattle.words.specs.Write.{Wrote}
-use Rattle.words.proofs.Write.{none, then, length-puts}
+use Rattle.words.proofs.Write.{none, then}
 use Rattle.event_list.specs.Events.{Line}
 use Rattle.event_list.specs.Plans.{line_words, head_words, plan_words}
 use Rattle.event_list.specs.Reading.{read_from, read_line, read_lines}
@@ -43,9 +43,6 @@ wrote_as e h = rw (← e) h
 writing_all : {b l rest all : List ℕ} {from at : ℕ} → Writing b l from at rest all → rest ≡ [] → Wrote b l from at all
 writing_all h e = wrote_as (sym (append-nil h.sent) ∙ ap (λ (r : List ℕ). h.sent ++ r) (sym e) ∙ h.whole) h.so
 
-writing_length : {b l rest all : List ℕ} {from at : ℕ} → Writing b l from at rest all → length l ≡ length b
-writing_length {b} {from = from} h = ap length h.so.same ∙ length-puts b from h.sent
-
 -- ---- the tokens of a line
 
 -- the tokens that are left
@@ -74,29 +71,32 @@ pub record Passing (w before now : List ℕ) (at x : ℕ) (o : Put) (fuel : ℕ)
   pub near : o.at + 3 * fuel ≤ at + 3 * length w
 
 pub passing_start : (w l : List ℕ) (at x : ℕ)
-    → Passing w l l at x (record { at = at; tokens = 0 }) (length w) (record { place = 3; left = 0; ticks = 0 })
+    → Passing w l l at x (record { at = at; tokens = 0 }) (length w - 0) (record { place = 3; left = 0; ticks = 0 })
 unfolding tokens_from read_line
 passing_start w l at x =
-    record {
+    let all : length w - 0 ≡ length w = omega arith in
+    rw all
+    (record {
       so = writing_none l at (line_words (word w 0) (read_from w x (length w) 3 0 0));
       counted = omega arith;
       few = omega arith;
       near = omega arith;
-    }
+    })
 
-pub passing_length : {w before now : List ℕ} {at x fuel : ℕ} {o : Put} {p : Pass} → Passing w before now at x o fuel p → length now ≡ length before
-passing_length h = writing_length h.so
-
-pub passing_step : {w before now after : List ℕ} {at x fuel : ℕ} {o r : Put} {p q : Pass} → Passing w before now at x o fuel p
-    → 0 < fuel → p.place < length w → Wrote now after o.at r.at (line_words (word w 0) (closed_at w x p))
+-- the step after i others
+pub passing_step : {w before now after : List ℕ} {at x i : ℕ} {o r : Put} {p q : Pass} → Passing w before now at x o (length w - i) p
+    → i < length w → p.place < length w → Wrote now after o.at r.at (line_words (word w 0) (closed_at w x p))
     → r.tokens ≡ o.tokens + length (closed_at w x p) → r.tokens ≤ o.tokens + 1 → r.at ≤ o.at + 3 → q ≡ step w x p
-    → Passing w before after at x r (fuel - 1) q
+    → Passing w before after at x r (length w - (i + 1)) q
 unfolding line_words
-passing_step {w} {x = x} {fuel = fuel} {o = o} {r = r} {p = p} {q = q} h some inside wrote counted one three is =
-    let rest = from_more w x fuel p some inside ∙ ap (λ (s : Pass). closed_at w x p ++ tokens_from w x (fuel - 1) s) (sym is) in
-    let long = length-append (closed_at w x p) (tokens_from w x (fuel - 1) q) in
+passing_step {w} {x = x} {i = i} {o = o} {r = r} {p = p} {q = q} h some inside wrote counted one three is =
+    let fewer : length w - i - 1 ≡ length w - (i + 1) = omega arith in
+    let fuel : ℕ = length w - (i + 1) in
+    let rest =
+    rw fewer at (from_more w x (length w - i) p (omega arith) inside) ∙ ap (λ (s : Pass). closed_at w x p ++ tokens_from w x fuel s) (sym is) in
+    let long = length-append (closed_at w x p) (tokens_from w x fuel q) in
     record {
-      so = writing_more h.so (ap (line_words (word w 0)) rest ∙ flat_append _ (closed_at w x p) (tokens_from w x (fuel - 1) q)) wrote;
+      so = writing_more h.so (ap (line_words (word w 0)) rest ∙ flat_append _ (closed_at w x p) (tokens_from w x fuel q)) wrote;
       counted = omega (arith, h.counted, ap length rest, long, counted);
       few = omega (arith, h.few);
       near = omega (arith, h.near);
@@ -146,9 +146,6 @@ pub record Lines (w before now : List ℕ) (from at n x : ℕ) : Type 0 where
 pub lines_start : (w l : List ℕ) (at n : ℕ) → Lines w l l at at n 0
 lines_start w l at n = record { so = writing_none l at _ }
 
-pub lines-length : {w before now : List ℕ} {from at n x : ℕ} → Lines w before now from at n x → length now ≡ length before
-lines-length h = writing_length h.so
-
 pub lines_step : {w before now after : List ℕ} {from at next n x : ℕ} → Lines w before now from at n x → x < n
     → Wrote now after at next (line_words (word w 0) (read_line w x)) → Lines w before after from next n (x + 1)
 unfolding flat_map
@@ -164,28 +161,28 @@ lines_end {w} {n = n} {x = x} h l =
 pub record Heads (w first now : List ℕ) (from at n x before : ℕ) : Type 0 where
   pub so : Writing first now from at (head_words before (lines_from w n x)) (head_words 0 (lines_from w n 0))
 
-pub heads_start : (w l : List ℕ) (at n : ℕ) → Heads w l l at at n 0 0
-heads_start w l at n = record { so = writing_none l at _ }
+pub heads_start : (w l : List ℕ) (at n : ℕ) → Heads w l l at (at + 2 * 0) n 0 0
+heads_start w l at n = let e : at + 2 * 0 ≡ at = omega arith in rw e (record { so = writing_none l at _ })
 
-pub heads_length : {w first now : List ℕ} {from at n x before : ℕ} → Heads w first now from at n x before → length now ≡ length first
-heads_length h = writing_length h.so
-
-pub heads_step : {w first now mid after : List ℕ} {from at n x before k : ℕ} → Heads w first now from at n x before → x < n
-    → k ≡ length (read_line w x) → mid ≡ set now at before → after ≡ set mid (at + 1) k → Heads w first after from (at + 1 + 1) n (x + 1) (before + k)
+pub heads_step : {w first now mid after : List ℕ} {from n x before k : ℕ} → Heads w first now from (from + 2 * x) n x before → x < n
+    → k ≡ length (read_line w x) → mid ≡ set now (from + 2 * x) before → after ≡ set mid (from + 2 * x + 1) k
+    → Heads w first after from (from + 2 * (x + 1)) n (x + 1) (before + k)
 unfolding head_words
-heads_step {w} {at = at} {n = n} {x = x} {before = before} {k = k} h l e a b =
+heads_step {w} {from = from} {n = n} {x = x} {before = before} {k = k} h l e a b =
     record {
       so =
           writing_more {xs = before ∷ k ∷ []} h.so
           (ap (head_words before) (lines_more w n x l) ∙ rw e)
-          (record { same = b ∙ ap (λ (m : List ℕ). set m (at + 1) k) a; next = omega arith });
+          (record { same = b ∙ ap (λ (m : List ℕ). set m (from + 2 * x + 1) k) a; next = omega arith });
     }
 
-pub heads_end : {w first now : List ℕ} {from at n x before : ℕ} → Heads w first now from at n x before → n ≤ x
-    → Wrote first now from at (head_words 0 (read_lines w n))
+pub heads_end : {w first now : List ℕ} {from n x before : ℕ} → Heads w first now from (from + 2 * x) n x before → n ≤ x → x ≤ n
+    → Wrote first now from (from + 2 * n) (head_words 0 (read_lines w n))
 unfolding head_words
-heads_end {w} {n = n} {x = x} {before = before} h l =
-    wrote_as (ap (head_words 0) (lines-all w n)) (writing_all h.so (ap (head_words before) (lines_none w n x l)))
+heads_end {w} {from = from} {n = n} {x = x} {before = before} h l m =
+    let e : from + 2 * x ≡ from + 2 * n = omega arith in
+    let all = wrote_as (ap (head_words 0) (lines-all w n)) (writing_all h.so (ap (head_words before) (lines_none w n x l))) in
+    rw e at all
 
 -- ---- the plan
 

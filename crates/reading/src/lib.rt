@@ -29,6 +29,7 @@ pub struct Put {
 }
 
 // The words of an action.
+#[tactic(auto, unfolding(event_list::specs::Words::action_width))]
 fn action_width(list: &[u32]) -> usize
     ensures { (result ≡ action_width (word list.now 0)) × (result ≤ 4) }
 {
@@ -39,6 +40,7 @@ fn action_width(list: &[u32]) -> usize
 }
 
 // The job of the action at a place.
+#[tactic(auto, unfolding(event_list::specs::Reading::action_job))]
 fn action_job(list: &[u32], place: usize) -> u32
     requires { place < 2 ^ 40 }
     ensures { result ≡ action_job list.now place }
@@ -50,6 +52,7 @@ fn action_job(list: &[u32], place: usize) -> u32
 }
 
 // Whether the action at a place is an end on line x.
+#[tactic(auto, unfolding(event_list::specs::Reading::ends_here))]
 fn ends_here(list: &[u32], x: u32, place: usize) -> bool
     requires { place < 2 ^ 40 }
     ensures { result ≡ ends_here list.now x place }
@@ -58,14 +61,11 @@ fn ends_here(list: &[u32], x: u32, place: usize) -> bool
 }
 
 // Ticks and a delay more, N at most.
+#[tactic(auto, unfolding(event_list::specs::Reading::add_ticks))]
 fn add_ticks(ticks: u32, delay: u32) -> u32
     ensures { result ≡ add_ticks ticks delay }
 {
-    let sum = ticks as u64 + delay as u64;
-    if sum <= 4294967295 {
-        return sum as u32;
-    }
-    4294967295
+    ticks.saturating_add(delay)
 }
 
 // One step of a pass: an event begins, or an action is passed.
@@ -112,15 +112,14 @@ fn put_token(list: &[u32], value: u32, ticks: u32, job: u32, room: &mut [u32], a
     requires { at < 2 ^ 40 }
     ensures { Wrote room.old room.new at result (token_words (word list.now 0) (plan_token value ticks job)) × (result ≤ at + 3) }
 {
+    // word by word: `put_at` stores what fits, and a copy of a run would have to fit
     sink::put_at(room, at, value);
-    let second = at + 1;
-    sink::put_at(room, second, ticks);
-    let third = second + 1;
+    sink::put_at(room, at + 1, ticks);
     if word_at(list, 0) == 2 {
-        sink::put_at(room, third, job);
-        return third + 1;
+        sink::put_at(room, at + 2, job);
+        return at + 3;
     }
-    third
+    at + 2
 }
 
 // Puts the token of line x that ends at the place, if one does.
@@ -152,14 +151,13 @@ fn read_line(list: &[u32], x: u32, room: &mut [u32], at: usize) -> Put
         left: 0,
         ticks: 0,
     };
-    let mut fuel = list.len();
-    while fuel > 0 {
+    // each step passes a word or more
+    for _ in 0..list.len() {
         if list.len() <= p.place {
             return o;
         }
         o = close(list, x, p, room, o);
         p = next(list, x, p);
-        fuel -= 1;
     }
     o
 }
@@ -178,19 +176,15 @@ fn put_heads(list: &[u32], n: u32, room: &mut [u32], at: usize) -> usize
     requires { (length list.now ≤ 65536) × (n ≤ 16) × (at < 2 ^ 20) }
     ensures { Wrote room.old room.new at result (head_words 0 (read_lines list.now n)) }
 {
-    let mut to = at;
     let mut before: u32 = 0;
-    let mut x: u32 = 0;
-    while x < n {
+    for x in 0..n {
         let tokens = count_line(list, x);
+        let to = at + 2 * x as usize;
         sink::put_at(room, to, before);
-        let second = to + 1;
-        sink::put_at(room, second, tokens);
-        to = second + 1;
+        sink::put_at(room, to + 1, tokens);
         before += tokens;
-        x += 1;
     }
-    to
+    at + 2 * n as usize
 }
 
 // Puts the tokens of the first n lines, and answers the place behind them.
@@ -199,10 +193,8 @@ fn put_lines(list: &[u32], n: u32, room: &mut [u32], at: usize) -> usize
     ensures { Wrote room.old room.new at result (flat_map (line_words (word list.now 0)) (read_lines list.now n)) × (result ≤ at + 196608 * n) }
 {
     let mut to = at;
-    let mut x: u32 = 0;
-    while x < n {
+    for x in 0..n {
         to = read_line(list, x, room, to).at;
-        x += 1;
     }
     to
 }

@@ -1,8 +1,7 @@
 -- The numbers of the rules that are kept, from an index on, and what closing up asks and gives. Assumes nothing.
-use Rattle.std.specs.Prelude.{◌≡◌, ℕ, ◌-◌, ◌≤◌, ◌<◌, Bool, true, ◌&&◌, cond, List, [], ◌∷◌, ltb, eqb, length, get_or}
+use Rattle.std.specs.Prelude.{◌≡◌, ℕ, ◌-◌, ◌≤◌, ◌<◌, true, List, length, get_or}
 use Rattle.answers.specs.declared.Numbers.{Numbers}
 use Rattle.answers.specs.Numbers.{numbers}
-use Rattle.words.specs.Words.{word}
 use Rattle.layout.specs.Layout.{count}
 use Rattle.book.specs.Rules.{rules_of}
 use Rattle.book.specs.Encode.{atoms}
@@ -14,13 +13,6 @@ use Rattle.removal.specs.Removal.{rising}
 -- the numbers of the kept rules, of n, from rule i on
 unfoldable pub left_from : List ℕ → ℕ → ℕ → List ℕ
 left_from list n i = kept list i (numbers_from (n - i) i)
-
--- rule i is the next of the list, at index k; and its number, if it isn't
-abbrev pub is_next : List ℕ → ℕ → ℕ → Bool
-is_next list k i = ltb k (length list) && eqb (word list k) i
-
-unfoldable pub unless_next : List ℕ → ℕ → ℕ → List ℕ
-unless_next list k i = cond (is_next list k i) [] (i ∷ [])
 
 -- no number is below its index
 abbrev pub Climbs : List ℕ → Type 0

@@ -9,9 +9,9 @@ ghost use Rattle.closing.specs.Rebuilt.{rebuilt};
 ghost use Rattle.closing.specs.Left.{rule_in, Fitting};
 ghost use Rattle.removal.specs.Removed.{in_front};
 ghost use Rattle.removal.specs.Removal.{rising, removal, book_after, desks_after};
-ghost use Rattle.removal.specs.Left.{left_from, is_next, unless_next, Climbs, Right, ClosedUp};
+ghost use Rattle.removal.specs.Left.{left_from, Climbs, Right, ClosedUp};
 
-use answers::Answer;
+use answers::{Answer, Done, Refusal};
 use words::{number_at, word_at};
 
 // ---- the list of numbers
@@ -20,52 +20,22 @@ use words::{number_at, word_at};
 fn rises(list: &[u32], n: usize) -> bool
     ensures { result ≡ rising 0 n list.now }
 {
-    let mut from = 0;
-    let mut k = 0;
-    while k < list.len() {
-        let x = number_at(list, k);
-        if x < from {
-            return false;
-        }
-        if n <= x {
-            return false;
-        }
-        from = x + 1;
-        k += 1;
-    }
-    true
+    list.is_sorted_by(|a, b| *a < *b) && list.iter().all(|x| (*x as usize) < n)
 }
 
-// Whether rule i is the next of the list, at index k.
-fn is_next(list: &[u32], k: usize, i: usize) -> bool
-    ensures { result ≡ is_next list.now k i }
-{
-    (k < list.len()) & (number_at(list, k) == i)
-}
-
-// Puts the number of rule i at a place, unless it is the next of the list.
-fn put_unless(list: &[u32], k: usize, i: usize, left: &mut [u32; 64], at: usize) -> usize
-    requires { (i < 64) × (at < 64) }
-    ensures { Wrote left.old left.new at result (unless_next list.now k i) }
-{
-    if is_next(list, k, i) {
-        return at;
-    }
-    left[at] = i as u32;
-    at + 1
-}
-
-// Lists the numbers of the rules that are kept, of n, and answers how many they are. Of the rules before i, those that weren't kept are passed
-// in the list.
+// Lists the numbers of the rules that are kept, of n, and answers how many they are. The list is a lent array with a length beside it, since the
+// library's memory is fixed.
 fn list_left(list: &[u32], n: usize, left: &mut [u32; 64]) -> usize
-    requires { (n ≤ 64) × (rising 0 n list.now ≡ true) }
+    requires { n ≤ 64 }
     ensures { Wrote left.old left.new 0 result (left_from list.now n 0) }
 {
     let mut at = 0;
-    let mut i = 0;
-    while i < n {
-        at = put_unless(list, i - at, i, left, at);
-        i += 1;
+    for i in 0..n {
+        let rule = i as u32;
+        if !list.contains(&rule) {
+            left[at] = rule;
+            at += 1;
+        }
     }
     at
 }
@@ -89,10 +59,8 @@ fn close_desks(desks: &mut [u32], left: &[u32])
     requires { Climbs left.now × (length left.now ≤ length desks.old) }
     ensures { desks.new ≡ in_front (map (word desks.old) left.now) desks.old }
 {
-    let mut i = 0;
-    while i < left.len() {
-        desks[i] = word_at(desks, number_at(left, i));
-        i += 1;
+    for (i, x) in left.iter().enumerate() {
+        desks[i] = word_at(desks, *x as usize);
     }
 }
 
@@ -105,10 +73,10 @@ fn close_up(book: &mut [u32], desks: &mut [u32], list: &[u32], n: usize) -> Answ
     let m = list_left(list, n, &mut left);
     let end = close_book(book, &left[..m]);
     close_desks(desks, &left[..m]);
-    Answer::Done {
+    Ok(Done {
         a: end as u32,
         b: m as u32,
-    }
+    })
 }
 
 // Takes the rules whose numbers are listed out of the lent book, with their alternatives, names and atoms, and out of the list of desks. Answers
@@ -118,17 +86,13 @@ pub fn remove_rules(book: &mut [u32], desks: &mut [u32], list: &[u32]) -> Answer
     ensures book_after { book.new ≡ book_after book.old desks.old list.now }
     ensures desks_after { desks.new ≡ desks_after book.old desks.old list.now }
 {
-    let r = book::check(book, 1);
-    let fault = answers::numbers_of(r);
-    if fault.number != 0 {
-        return r;
-    }
+    book::check(book, 1)?;
     if !desks::list_right(book, desks) {
-        return Answer::NoSuchDesk;
+        return Err(Refusal::NoSuchDesk);
     }
     let n = number_at(book, 6);
     if !rises(list, n) {
-        return Answer::NoSuchRules;
+        return Err(Refusal::NoSuchRules);
     }
     close_up(book, desks, list, n)
 }

@@ -13,8 +13,7 @@ use lib.ListN.{length, take, drop}
 use lib.Seq.{take-append_seam, drop-append_seam, take_at, drop_at}
 use borrow.Author.Tests.{eq-eqb, ne_eqb, eqb-true, le-leb, leb-true, lt-ltb}
 use Rattle.answers.specs.declared.Numbers.{Numbers}
-use Rattle.answers.specs.declared.Answer.{Answer}
-use Rattle.answers.specs.Numbers.{numbers, numbers_of}
+use Rattle.answers.specs.Numbers.{Answer, numbers, numbers_of}
 use Rattle.answers.proofs.Stages.{else_fault}
 use Rattle.answers.proofs.OneCase.{one_answer}
 use Rattle.words.specs.Words.{word}

@@ -10,12 +10,13 @@ use Rattle.words.specs.Words.{word}
 use Rattle.lines.specs.Lines.{job_at}
 use Rattle.event_list.specs.Events.{Line, Action, action, event, start_on, change_on, by_line}
 use Rattle.event_list.specs.Words.{action_words, event_words}
-use Rattle.event_list.specs.Sends.{Sends}
-use Rattle.moments.specs.declared.Left.{Left}
+use Rattle.sink.specs.declared.Sink.{Sink}
+use Rattle.sink.specs.Sinks.{SendsTo}
+use Rattle.sweep.specs.declared.Stand.{Stand}
 use Rattle.moments.specs.State.{nothing, line_left, lines_left, behind, happens}
 use Rattle.moments.proofs.Laws.{left-none, left-some, by_more, by-none}
 use Rattle.sink.proofs.Lists.{flat_append}
-use Rattle.sink.proofs.Sends.{Sending, sending_none, sending_more, sending_all, sends_as, sends_length}
+use Rattle.sink.proofs.Sends.{Sending, sending_none, sending_more, sending_all, sends_as}
 
 some : (n : ℕ) → (n ≡ 0 → ⊥) → n ≡ suc (n - 1)
 some n h = omega (arith, h)
@@ -28,12 +29,12 @@ module _ (p : List ℕ) where
   abbrev at : ℕ → ℕ → ℕ → List ℕ
   at v place kind = action_words (word p 0) (action v (word p place) kind (job_at p place))
 
-  module _ (l : Left) (v : ℕ) where
-    pub start_none : l.tokens ≡ 0 → [] ≡ all (start_on v (line_left p l))
+  module _ (l : Stand) (v : ℕ) where
+    pub start_none : l.left ≡ 0 → [] ≡ all (start_on v (line_left p l))
     unfolding start_on flat_map
     start_none h = rw (left-none p l h)
 
-    pub start-some : (l.tokens ≡ 0 → ⊥) → at v l.place 1 ≡ all (start_on v (line_left p l))
+    pub start-some : (l.left ≡ 0 → ⊥) → at v l.place 1 ≡ all (start_on v (line_left p l))
     unfolding start_on flat_map
     start-some h = rw (left-some p l _ (some _ h)) (sym (append-nil _))
 
@@ -42,22 +43,22 @@ module _ (p : List ℕ) where
       unfolding happens
       on_first e = rw e
 
-      pub on_none : first ≡ false → l.tokens ≡ 0 → [] ≡ all (happens first m v (line_left p l))
+      pub on_none : first ≡ false → l.left ≡ 0 → [] ≡ all (happens first m v (line_left p l))
       unfolding happens change_on flat_map
       on_none e h = rw (e, left-none p l h)
 
-      pub on_apart : first ≡ false → (l.tokens ≡ 0 → ⊥) → (l.run ≡ m → ⊥) → [] ≡ all (happens first m v (line_left p l))
+      pub on_apart : first ≡ false → (l.left ≡ 0 → ⊥) → (l.run ≡ m → ⊥) → [] ≡ all (happens first m v (line_left p l))
       unfolding happens change_on flat_map
       on_apart e h n = rw (e, left-some p l _ (some _ h), ne_eqb _ _ n)
 
-      pub on_end : first ≡ false → (l.tokens ≡ 0 → ⊥) → l.run ≡ m
+      pub on_end : first ≡ false → (l.left ≡ 0 → ⊥) → l.run ≡ m
           → at v l.place 0 ++ all (start_on v (behind (line_left p l))) ≡ all (happens first m v (line_left p l))
       unfolding happens change_on flat_map behind
       on_end e h r = rw (e, left-some p l _ (some _ h), eq-eqb _ _ r)
 
 -- ---- all lines
 
-module _ (p : List ℕ) (s : List Left) (n : ℕ) (f : ℕ → Line → List Action) where
+module _ (p : List ℕ) (s : List Stand) (n : ℕ) (f : ℕ → Line → List Action) where
   -- what happens on the lines from v on
   unfoldable pub actions_from : ℕ → List ℕ
   actions_from v = flat_map (action_words (word p 0)) (by_line f v (lines_left p s (n - v) v))
@@ -77,28 +78,19 @@ module _ (p : List ℕ) (s : List Left) (n : ℕ) (f : ℕ → Line → List Act
   from_all = let e : n - 0 ≡ n = omega arith in rw e
 
 -- what was sent, and what happens on the lines from v on, is all
-pub record Lined (list before now : List ℕ) (from : ℕ) (b : Bool) (at : ℕ) (c : Bool) (p : List ℕ) (s : List Left) (n : ℕ)
-    (f : ℕ → Line → List Action) (v : ℕ) : Type 0 where
-  pub so : Sending list before now from b at c (actions_from p s n f v) (actions_from p s n f 0)
+pub record Lined (before now : Sink) (p : List ℕ) (s : List Stand) (n : ℕ) (f : ℕ → Line → List Action) (v : ℕ) : Type 0 where
+  pub so : Sending before now (actions_from p s n f v) (actions_from p s n f 0)
 
-pub lines_start : (list l : List ℕ) (at : ℕ) (b : Bool) (p : List ℕ) (s : List Left) (n : ℕ) (f : ℕ → Line → List Action)
-    → Lined list l l at b at b p s n f 0
-lines_start list l at b p s n f = record { so = sending_none list l at b (actions_from p s n f 0) }
+pub lines_start : (to : Sink) (p : List ℕ) (s : List Stand) (n : ℕ) (f : ℕ → Line → List Action) → Lined to to p s n f 0
+lines_start to p s n f = record { so = sending_none to (actions_from p s n f 0) }
 
-pub lines_step : {list before now after p : List ℕ} {s : List Left} {from at next n v : ℕ} {a b c : Bool} {f : ℕ → Line → List Action}
-    → Lined list before now from a at b p s n f v → v < n
-    → Sends list now after at b next c (flat_map (action_words (word p 0)) (f v (line_left p (get_or s v nothing))))
-    → Lined list before after from a next c p s n f (v + 1)
+pub lines_step : {before now after : Sink} {p : List ℕ} {s : List Stand} {n v : ℕ} {f : ℕ → Line → List Action} → Lined before now p s n f v → v < n
+    → SendsTo now after (flat_map (action_words (word p 0)) (f v (line_left p (get_or s v nothing)))) → Lined before after p s n f (v + 1)
 lines_step {p = p} {s = s} {n = n} {v = v} {f = f} h l q = record { so = sending_more h.so (from_more p s n f v l) q }
 
-pub lines_end : {list before now p : List ℕ} {s : List Left} {from at n v : ℕ} {a b : Bool} {f : ℕ → Line → List Action}
-    → Lined list before now from a at b p s n f v → n ≤ v
-    → Sends list before now from a at b (flat_map (action_words (word p 0)) (by_line f 0 (lines_left p s n 0)))
+pub lines_end : {before now : Sink} {p : List ℕ} {s : List Stand} {n v : ℕ} {f : ℕ → Line → List Action} → Lined before now p s n f v → n ≤ v
+    → SendsTo before now (flat_map (action_words (word p 0)) (by_line f 0 (lines_left p s n 0)))
 lines_end {p = p} {s = s} {n = n} {v = v} {f = f} h l = sends_as (from_all p s n f) (sending_all h.so (from-none p s n f v l))
-
-pub lines-length : {list before now p : List ℕ} {s : List Left} {from at n v : ℕ} {a b : Bool} {f : ℕ → Line → List Action}
-    → Lined list before now from a at b p s n f v → length now ≡ length before
-lines-length h = sends_length h.so.so
 
 -- ---- an event
 

@@ -7,109 +7,75 @@ ghost use Rattle.words.specs.Words.{word};
 ghost use Rattle.lines.specs.Lines.{job_at};
 ghost use Rattle.event_list.specs.Events.{action, event, start_on, by_line};
 ghost use Rattle.event_list.specs.Words.{action_words, event_words};
-ghost use Rattle.event_list.specs.Sends.{Sends};
+ghost use Rattle.sink.specs.Sinks.{SendsTo};
 ghost use Rattle.moments.specs.State.{line_left, lines_left, happens, Small, AllSmall};
 
-use moments::Left;
-use sink::Sent;
+use sink::Sink;
+use sweep::Stand;
 
-// Sends the end (kind 0) or the start (kind 1) of the token at a place, on line v.
-fn send_token(
-    list: &[u32],
-    room: &mut [u32],
-    o: Sent,
-    plan: &[u32],
-    v: u32,
-    place: usize,
-    kind: u32,
-) -> Sent
-    requires { (o.at < 2 ^ 58) × (place < 2 ^ 60) }
-    ensures { Sends list.now room.old room.new o.at o.same result.at result.same (action_words (word plan.now 0) (action v (word plan.now place) kind (job_at plan.now place))) × (result.at ≤ o.at + 4) }
+// The kinds of an action: the numbers that a list has, since they are sent as words.
+const END: u32 = 0;
+
+const START: u32 = 1;
+
+// Sends the end or the start of the token at a place, on line v.
+fn send_token(to: &mut Sink<'_>, plan: &[u32], v: u32, place: usize, kind: u32)
+    requires { (to.old.sent.at < 2 ^ 58) × (place < 2 ^ 60) }
+    ensures { SendsTo to.old to.new (action_words (word plan.now 0) (action v (word plan.now place) kind (job_at plan.now place))) × (to.new.sent.at ≤ to.old.sent.at + 4) }
 {
     let edition = words::word_at(plan, 0);
     let value = words::word_at(plan, place);
     let job = lines::job_at(plan, place);
-    sink::send_action(list, room, o, edition, v, value, kind, job)
+    to.send_action(edition, v, value, kind, job);
 }
 
 // Sends the start of the token that a line is at, if there is one.
-fn send_start(list: &[u32], room: &mut [u32], o: Sent, plan: &[u32], v: u32, l: Left) -> Sent
-    requires { (o.at < 2 ^ 57) × Small l }
-    ensures { Sends list.now room.old room.new o.at o.same result.at result.same (flat_map (action_words (word plan.now 0)) (start_on v (line_left plan.now l))) × (result.at ≤ o.at + 4) }
+fn send_start(to: &mut Sink<'_>, plan: &[u32], v: u32, l: Stand)
+    requires { (to.old.sent.at < 2 ^ 57) × Small l }
+    ensures { SendsTo to.old to.new (flat_map (action_words (word plan.now 0)) (start_on v (line_left plan.now l))) × (to.new.sent.at ≤ to.old.sent.at + 4) }
 {
-    if l.tokens == 0 {
-        return o;
+    if l.left != 0 {
+        send_token(to, plan, v, l.place, START);
     }
-    send_token(list, room, o, plan, v, l.place, 1)
 }
 
-// Sends what happens on line v at the start, or m ticks later: "end before start".
-fn send_on(
-    list: &[u32],
-    room: &mut [u32],
-    o: Sent,
-    plan: &[u32],
-    v: u32,
-    l: Left,
-    first: bool,
-    m: u32,
-) -> Sent
-    requires { (o.at < 2 ^ 56) × Small l }
-    ensures { Sends list.now room.old room.new o.at o.same result.at result.same (flat_map (action_words (word plan.now 0)) (happens first m v (line_left plan.now l))) × (result.at ≤ o.at + 8) }
+// Sends what happens on line v at the start, or m ticks later: "end before start". `first` and m stand side by side, as `happens` takes them.
+fn send_on(to: &mut Sink<'_>, plan: &[u32], v: u32, l: Stand, first: bool, m: u32)
+    requires { (to.old.sent.at < 2 ^ 56) × Small l }
+    ensures { SendsTo to.old to.new (flat_map (action_words (word plan.now 0)) (happens first m v (line_left plan.now l))) × (to.new.sent.at ≤ to.old.sent.at + 8) }
 {
     if first {
-        return send_start(list, room, o, plan, v, l);
+        send_start(to, plan, v, l);
+        return;
     }
-    if l.tokens == 0 {
-        return o;
+    if l.left == 0 {
+        return;
     }
     if l.run != m {
-        return o;
+        return;
     }
-    let ended = send_token(list, room, o, plan, v, l.place, 0);
+    send_token(to, plan, v, l.place, END);
     let next = moments::next(plan, l);
-    send_start(list, room, ended, plan, v, next)
+    send_start(to, plan, v, next);
 }
 
 // Sends what happens on the first n lines, line by line.
-fn send_actions(
-    list: &[u32],
-    room: &mut [u32],
-    o: Sent,
-    plan: &[u32],
-    s: [Left; 16],
-    n: u32,
-    first: bool,
-    m: u32,
-) -> Sent
-    requires { (o.at < 2 ^ 55) × (n ≤ 16) × AllSmall s }
-    ensures { Sends list.now room.old room.new o.at o.same result.at result.same (flat_map (action_words (word plan.now 0)) (by_line (happens first m) 0 (lines_left plan.now s n 0))) × (result.at ≤ o.at + 128) }
+fn send_actions(to: &mut Sink<'_>, plan: &[u32], s: [Stand; 16], n: u32, first: bool, m: u32)
+    requires { (to.old.sent.at < 2 ^ 55) × (n ≤ 16) × AllSmall s }
+    ensures { SendsTo to.old to.new (flat_map (action_words (word plan.now 0)) (by_line (happens first m) 0 (lines_left plan.now s n 0))) × (to.new.sent.at ≤ to.old.sent.at + 128) }
 {
-    let mut at = o;
-    let mut v: u32 = 0;
-    while v < n {
-        at = send_on(list, room, at, plan, v, s[v as usize], first, m);
-        v += 1;
+    for v in 0..n {
+        send_on(to, plan, v, s[v as usize], first, m);
     }
-    at
 }
 
 // Sends an event: the delay, how many actions, and the actions.
-pub fn send_event(
-    list: &[u32],
-    room: &mut [u32],
-    o: Sent,
-    plan: &[u32],
-    s: [Left; 16],
-    n: u32,
-    first: bool,
-    m: u32,
-) -> Sent
-    requires { (o.at < 2 ^ 54) × (n ≤ 16) × AllSmall s }
-    ensures { Sends list.now room.old room.new o.at o.same result.at result.same (event_words (word plan.now 0) (event m (by_line (happens first m) 0 (lines_left plan.now s n 0)))) × (result.at ≤ o.at + 130) }
+pub fn send_event(to: &mut Sink<'_>, plan: &[u32], s: [Stand; 16], n: u32, first: bool, m: u32)
+    requires { (to.old.sent.at < 2 ^ 54) × (n ≤ 16) × AllSmall s }
+    ensures { SendsTo to.old to.new (event_words (word plan.now 0) (event m (by_line (happens first m) 0 (lines_left plan.now s n 0)))) × (to.new.sent.at ≤ to.old.sent.at + 130) }
 {
     let count = moments::count(s, n as usize, first, m);
-    let delayed = sink::send(list, room, o, m);
-    let counted = sink::send(list, room, delayed, count);
-    send_actions(list, room, counted, plan, s, n, first, m)
+    to.send(m);
+    to.send(count);
+    send_actions(to, plan, s, n, first, m);
 }

@@ -4,7 +4,10 @@
 ghost use Rattle.std.specs.Prelude.{[], ◌∷◌, ◌≡◌, ◌+◌, ◌<◌, ◌≤◌, ◌^◌, set};
 ghost use Rattle.event_list.specs.Events.{action};
 ghost use Rattle.event_list.specs.Words.{action_words};
-ghost use Rattle.event_list.specs.Sends.{Sends};
+ghost use Rattle.sink.specs.Sinks.{SendsTo};
+
+// The list edition whose actions have a job.
+const WITH_JOBS: u32 = 2;
 
 // How far words were sent: the next place, and whether all so far are the list's.
 #[derive(Clone, Copy)]
@@ -23,39 +26,39 @@ pub fn put_at(room: &mut [u32], at: usize, w: u32)
     room[at] = w;
 }
 
-// Sends a word.
-pub fn send(list: &[u32], room: &mut [u32], o: Sent, w: u32) -> Sent
-    requires { o.at < 2 ^ 60 }
-    ensures { Sends list.now room.old room.new o.at o.same result.at result.same (w ∷ []) }
-{
-    let at = o.at;
-    put_at(room, at, w);
-    let x = words::word_at(list, at);
-    Sent {
-        at: at + 1,
-        same: o.same & (x == w),
-    }
+// Where words are sent: the list that they are compared with, the room that they are stored in, and how far they were sent.
+#[derive(Drop)]
+pub struct Sink<'a> {
+    pub list: &'a [u32],
+    pub room: &'a mut [u32],
+    pub sent: Sent,
 }
 
-// Sends an action: three words, and its job behind them in edition 2.
-pub fn send_action(
-    list: &[u32],
-    room: &mut [u32],
-    o: Sent,
-    edition: u32,
-    line: u32,
-    value: u32,
-    kind: u32,
-    job: u32,
-) -> Sent
-    requires { o.at < 2 ^ 59 }
-    ensures { Sends list.now room.old room.new o.at o.same result.at result.same (action_words edition (action line value kind job)) × (result.at ≤ o.at + 4) }
-{
-    let a = send(list, room, o, line);
-    let b = send(list, room, a, value);
-    let c = send(list, room, b, kind);
-    if edition == 2 {
-        return send(list, room, c, job);
+impl Sink<'_> {
+    // Sends a word.
+    pub fn send(&mut self, w: u32)
+        requires { self.old.sent.at < 2 ^ 60 }
+        ensures { SendsTo self.old self.new (w ∷ []) }
+    {
+        let at = self.sent.at;
+        put_at(self.room, at, w);
+        let x = words::word_at(self.list, at);
+        self.sent = Sent {
+            at: at + 1,
+            same: self.sent.same & (x == w),
+        };
     }
-    c
+
+    // Sends an action: three words, and its job behind them in edition 2. Edition and kind are numbers, since they are words of a list.
+    pub fn send_action(&mut self, edition: u32, line: u32, value: u32, kind: u32, job: u32)
+        requires { self.old.sent.at < 2 ^ 59 }
+        ensures { SendsTo self.old self.new (action_words edition (action line value kind job)) × (self.new.sent.at ≤ self.old.sent.at + 4) }
+    {
+        self.send(line);
+        self.send(value);
+        self.send(kind);
+        if edition == WITH_JOBS {
+            self.send(job);
+        }
+    }
 }

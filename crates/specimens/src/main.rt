@@ -6,11 +6,7 @@ use std::io;
 
 // Judges a sheet, read directly, and a plan by their files' names, and prints the line.
 fn judge_sheet(rt: &HostRuntime, sheet: &[u8], plan: &[u8]) -> io::Result<()> {
-    let mut s = [0u8; 65540];
-    let mut p = [0u8; 65540];
-    let m = files::slurp(rt, sheet, &mut s);
-    let n = files::slurp(rt, plan, &mut p);
-    files::show(rt, front::judge_sheet(&s[..m], &p[..n]))
+    files::judge_by(rt, sheet, plan, front::judge_sheet)
 }
 
 // Translates a sheet in a room of 105 words, one too few for the specimen that it is for, and prints the line.

@@ -35,35 +35,26 @@ pub fn first_stand(p: &[u32], v: usize) -> Stand
     }
 }
 
-// Lines of which nothing is left.
-fn no_lines() -> Sweep
-    ensures { length result.lines ≡ 16 }
-{
-    let none = Stand {
-        place: 0,
-        left: 0,
-        run: 0,
-    };
-    Sweep { lines: [none; 16] }
-}
-
 // All lines before anything has run.
 pub fn begin(p: &[u32]) -> Sweep
     requires { word p.now 2 ≤ 16 }
     ensures { Begun p.now (word p.now 2) result.lines }
 {
-    let mut s = no_lines();
-    let n = number_at(p, 2);
-    let mut v = 0;
-    while v < n {
-        let x = first_stand(p, v);
-        s.lines[v] = x;
-        v += 1;
+    // nothing is left of a line that the plan hasn't
+    let none = Stand {
+        place: 0,
+        left: 0,
+        run: 0,
+    };
+    let mut s = Sweep { lines: [none; 16] };
+    for v in 0..number_at(p, 2) {
+        s.lines[v] = first_stand(p, v);
     }
     s
 }
 
-// The fewer ticks to run.
+// The fewer ticks to run. 0 stands for no end, in place of an `Option`: the definition `sooner` counts so.
+#[tactic(auto, unfolding(crate::specs::Stands::sooner))]
 fn sooner(r: u32, s: Stand) -> u32
     ensures { result ≡ sooner r s }
 {
@@ -81,16 +72,11 @@ pub fn soonest(s: Sweep, n: usize) -> u32
     requires { n ≤ 16 }
     ensures { result ≡ soonest s.lines n }
 {
-    let mut r = 0;
-    let mut v = 0;
-    while v < n {
-        r = sooner(r, s.lines[v]);
-        v += 1;
-    }
-    r
+    s.lines[..n].iter().fold(0, |r, line| sooner(r, *line))
 }
 
 // A line m ticks later.
+#[tactic(auto, unfolding(crate::specs::Stands::later))]
 fn later_line(p: &[u32], m: u32, s: Stand) -> Stand
     requires { s.place < 2 ^ 60 }
     ensures { result ≡ later p.now m s }
@@ -114,18 +100,14 @@ fn later_line(p: &[u32], m: u32, s: Stand) -> Stand
 }
 
 // The first n lines m ticks later.
-pub fn later(p: &[u32], s: Sweep, n: usize, m: u32) -> Sweep
+pub fn later(p: &[u32], mut s: Sweep, n: usize, m: u32) -> Sweep
     requires { (n ≤ 16) × ((v : ℕ) → v < n → (line_at s.lines v).place < 2 ^ 60) }
     ensures { Later p.now n m s.lines result.lines }
 {
-    let mut r = no_lines();
-    let mut v = 0;
-    while v < n {
-        let x = later_line(p, m, s.lines[v]);
-        r.lines[v] = x;
-        v += 1;
+    for v in 0..n {
+        s.lines[v] = later_line(p, m, s.lines[v]);
     }
-    r
+    s
 }
 
 // All times at which a token starts or ends, in order, into lent words, and the number of the last of them.
@@ -138,6 +120,7 @@ pub fn moments(p: &[u32], times: &mut [u32]) -> usize
     let mut at = 0;
     let mut time: u32 = 0;
     let mut next = soonest(s, n);
+    // a `while`: how many turns there are isn't known before the last
     while next != 0 {
         times[at] = time;
         at += 1;

@@ -6,11 +6,14 @@ use Prim.Native.Nat.{ℕ, ◌+◌, ◌≤◌, ◌<◌}
 use native.Mathlib.Omega.{arith}
 use borrow.Author.Tests.{lt-ltb, le-ltb, ltb-false, eq-eqb, ne_eqb}
 use mathlib.Core.List.{List, ◌++◌}
-use lib.Dec.{ltb, eqb}
+use lib.Dec.{ltb}
 use lib.ListN.{length, take, drop, length-take}
 use Rattle.answers.specs.declared.Numbers.{Numbers}
-use Rattle.answers.specs.Numbers.{numbers, no_fault, or_else}
-use Rattle.answers.proofs.Stages.{else_fault, else_next}
+use Rattle.std.specs.Prelude.{Option, Some, None, Ok, Err}
+use Rattle.answers.specs.declared.Done.{Done}
+use Rattle.answers.specs.declared.Refusal.{Refusal}
+use Rattle.answers.specs.Numbers.{numbers, numbers_of, no_fault, or_else}
+use Rattle.answers.proofs.Stages.{else_fault, else_next, refused_number, done_number}
 use Rattle.words.specs.Least.{first}
 use Rattle.words.specs.Write.{Wrote}
 use Rattle.words.proofs.Write.{puts_eq}
@@ -48,39 +51,44 @@ rule_none : (rules : List (Rule Atom)) → length rules ≤ first too_many rules
 unfolding rule_fault
 rule_none rules h = rw (le-ltb (first too_many rules) (length rules) h)
 
--- the table that is too long, as one number
+-- 14 with the table that is too long, if there is one
+abbrev table_fault : Option ℕ → Numbers
+table_fault (Some t) = numbers 14 t 0
+table_fault None = no_fault
+
 longs : (a b c d : Bool)
     → cond a (numbers 14 3 0) (cond b (numbers 14 4 0) (cond c (numbers 14 5 0) (cond d (numbers 14 6 0) no_fault)))
-    ≡ (let t = cond a 3 (cond b 4 (cond c 5 (cond d 6 0))) in cond (eqb t 0) no_fault (numbers 14 t 0))
+    ≡ table_fault (cond a (Some 3) (cond b (Some 4) (cond c (Some 5) (cond d (Some 6) None))))
 longs true b c d = refl
 longs false true c d = refl
 longs false false true d = refl
 longs false false false true = refl
 longs false false false false = refl
 
-nones : (a b c d : Bool) → ◌≡◌ {A = ℕ} (cond a 3 (cond b 4 (cond c 5 (cond d 6 0)))) 0 → (a ≡ false) × ((b ≡ false) × ((c ≡ false) × (d ≡ false)))
-nones true b c d h = absurd (omega arith)
-nones false true c d h = absurd (omega arith)
-nones false false true d h = absurd (omega arith)
-nones false false false true h = absurd (omega arith)
+nones : (a b c d : Bool) → ◌≡◌ {A = Option ℕ} (cond a (Some 3) (cond b (Some 4) (cond c (Some 5) (cond d (Some 6) None)))) None
+    → (a ≡ false) × ((b ≡ false) × ((c ≡ false) × (d ≡ false)))
+nones true b c d h = absurd (cc)
+nones false true c d h = absurd (cc)
+nones false false true d h = absurd (cc)
+nones false false false true h = absurd (cc)
 nones false false false false h = (refl, (refl, (refl, refl)))
 
-pub long-none : (n m k w : ℕ) → long_table n m k w ≡ 0 → (n ≤ 1024) × ((m ≤ 2048) × ((k ≤ 2048) × (w ≤ 16384)))
+pub long-none : (n m k w : ℕ) → None ≡ long_table n m k w → (n ≤ 1024) × ((m ≤ 2048) × ((k ≤ 2048) × (w ≤ 16384)))
 unfolding long_table
 long-none n m k w h =
-    let q = nones (ltb 1024 n) (ltb 2048 m) (ltb 2048 k) (ltb 16384 w) h in
+    let q = nones (ltb 1024 n) (ltb 2048 m) (ltb 2048 k) (ltb 16384 w) (sym h) in
     (ltb-false 1024 n q.0, (ltb-false 2048 m q.1.0, (ltb-false 2048 k q.1.1.0, ltb-false 16384 w q.1.1.1)))
 
 module _ {s : List ℕ} {n m k w : ℕ} (z : Sizes s n m k w) where
-  size_is : size_fault s ≡ cond (eqb (long_table n m k w) 0) no_fault (numbers 14 (long_table n m k w) 0)
+  size_is : size_fault s ≡ table_fault (long_table n m k w)
   unfolding size_fault long_table
   size_is = rw (z.alternatives, z.names, z.atoms, z.all) (longs (ltb 1024 (length (alts_of (rules_for s)))) (ltb 2048 (length (names_of (alts_of (rules_for s))))) (ltb 2048 (length (asks_of (alts_of (rules_for s))))) (ltb 16384 (length (translated s))))
 
-  size_long : (long_table n m k w ≡ 0 → ⊥) → size_fault s ≡ numbers 14 (long_table n m k w) 0
-  size_long h = size_is ∙ rw (ne_eqb _ _ h)
+  size_long : (t : ℕ) → Some t ≡ long_table n m k w → size_fault s ≡ numbers 14 t 0
+  size_long t h = size_is ∙ ap table_fault (sym h)
 
-  size_none : long_table n m k w ≡ 0 → size_fault s ≡ no_fault
-  size_none h = size_is ∙ rw (eq-eqb _ _ h)
+  size_none : None ≡ long_table n m k w → size_fault s ≡ no_fault
+  size_none h = size_is ∙ ap table_fault (sym h)
 
 -- ---- the answer, and the room
 
@@ -130,29 +138,28 @@ module _ (s room : List ℕ) where
 
       module _ {n m k w : ℕ} (z : Sizes s n m k w) where
         -- 14
-        pub too_long_lem : (t : ℕ) → t ≡ long_table n m k w → (t ≡ 0 → ⊥) → Outcome s room room (numbers 14 t 0)
+        pub too_long_lem : (t : ℕ) → Some t ≡ long_table n m k w → Outcome s room room (numbers 14 t 0)
         unfolding translation
-        too_long_lem t e h =
-            let found : size_fault s ≡ numbers 14 t 0 = rw e (size_long z (λ q. h (e ∙ q))) in
-            refused (numbers 14 t 0) (else_next _ _ p.good ∙ pass _ no_13 ∙ stop _ found (λ q. omega arith)) (λ q. omega arith)
+        too_long_lem t e =
+            refused (numbers 14 t 0) (else_next _ _ p.good ∙ pass _ no_13 ∙ stop _ (size_long z t e) (λ q. omega arith)) (λ q. omega arith)
 
         -- 15
-        pub too_short : (t : ℕ) → t ≡ long_table n m k w → t ≡ 0 → length room < w → Outcome s room room (numbers 15 w 0)
+        pub too_short : None ≡ long_table n m k w → length room < w → Outcome s room room (numbers 15 w 0)
         unfolding translation room_fault
-        too_short t e h l =
+        too_short h l =
             let found : room_fault s (length room) ≡ numbers 15 w 0 = rw (← z.all, lt-ltb (length room) w l) in
             refused (numbers 15 w 0)
-            (else_next _ _ p.good ∙ pass _ no_13 ∙ pass _ (size_none z (sym e ∙ h)) ∙ stop _ found (λ q. omega arith))
+            (else_next _ _ p.good ∙ pass _ no_13 ∙ pass _ (size_none z h) ∙ stop _ found (λ q. omega arith))
             (λ q. omega arith)
 
         -- 0
-        pub written : (t : ℕ) → t ≡ long_table n m k w → t ≡ 0 → w ≤ length room → (after : List ℕ) (r : ℕ) → Wrote room after 0 r (translated s)
+        pub written : None ≡ long_table n m k w → w ≤ length room → (after : List ℕ) (r : ℕ) → Wrote room after 0 r (translated s)
             → Outcome s room after (numbers 0 w n)
         unfolding translation room_fault
-        written t e h l after r wrote =
+        written h l after r wrote =
             let none : room_fault s (length room) ≡ no_fault = rw (← z.all, le-ltb (length room) w l) in
             finished (numbers 0 w n) after r
-            (else_next _ _ p.good ∙ pass _ no_13 ∙ pass _ (size_none z (sym e ∙ h)) ∙ pass _ none ∙ rw (← z.all, ← z.alternatives))
+            (else_next _ _ p.good ∙ pass _ no_13 ∙ pass _ (size_none z h) ∙ pass _ none ∙ rw (← z.all, ← z.alternatives))
             refl wrote (omega (arith, z.all))
 
 -- a sheet with the answer number 0 so far
@@ -163,23 +170,22 @@ passed s h = record { sound = sound 2 s (good 2 s (no_number 2 s h)); good = h }
 pub fitting : {s : List ℕ} → Passed s → Fits s
 fitting {s} p = sheet_fits s p.sound
 
-pub listed : {s out numbers : List ℕ} {rule items : ℕ} (rules : ℕ) → Passed s → ListedIs s out numbers rule items → rules ≡ count s 2 → rules ≤ rule
+pub listed : {s out numbers : List ℕ} {items : ℕ} (rules : ℕ) → Passed s → ListedIs s out numbers (Ok items) → rules ≡ count s 2
     → Ready s (take items out) (take rules numbers) × (Passed s × (count s 2 ≤ first too_many (rules_by s)))
-listed {s} {out} {numbers} {rule} {items} rules p l e h =
-    let all = l.all (omega arith) in
-    let f = l.found in (
+listed {s} {out} {numbers} {items} rules p l e =
+    let all = l.1 in (
       record {
         sound = p.sound;
         items = all.list;
         counts = rw e all.counts;
         few = omega (arith, all.few, length-take items out);
       },
-      (p, omega arith),
+      (p, l.0),
     )
 
--- the numbers f of the sheet's answer x, as the code has them
-pub bad_by : (s room : List ℕ) (x f : Numbers) → x ≡ book_fault 2 s → f ≡ x → (f.number ≡ 0 → ⊥) → Outcome s room room x
-bad_by s room x f e q h = rw e (bad_sheet s room (λ z. h (ap (λ (n : Numbers). n.number) (q ∙ e) ∙ z)))
+-- what `check` answers of the sheet: what it refuses is the answer; else the sheet passed
+pub bad_by : (s room : List ℕ) (r : Refusal) → numbers_of (Err r) ≡ book_fault 2 s → Outcome s room room (numbers_of (Err r))
+bad_by s room r e = rw e (bad_sheet s room (refused_number r _ e))
 
-pub good_by : (s : List ℕ) (x f : Numbers) → x ≡ book_fault 2 s → f ≡ x → f.number ≡ 0 → Passed s
-good_by s x f e q h = passed s (sym (ap (λ (n : Numbers). n.number) (q ∙ e)) ∙ h)
+pub good_by : (s : List ℕ) (d : Done) → numbers_of (Ok d) ≡ book_fault 2 s → Passed s
+good_by s d e = passed s (done_number d _ e)

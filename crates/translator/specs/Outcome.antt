@@ -1,11 +1,11 @@
--- The first table that is too long, as one number, and what `finish` asks of a sheet. Assumes nothing.
-use Rattle.std.specs.Prelude.{◌≡◌, cond, ℕ, List, ltb}
+-- The first table that is too long, and what `finish` asks of a sheet. Assumes nothing.
+use Rattle.std.specs.Prelude.{◌≡◌, cond, ℕ, List, ltb, Option, Some, None}
 use Rattle.book.specs.Fault.{book_fault}
 use Rattle.book.specs.Sound.{Sound}
 
--- the first table that is too long, or 6 for the whole, or 0
-unfoldable pub long_table : ℕ → ℕ → ℕ → ℕ → ℕ
-long_table n m k w = cond (ltb 1024 n) 3 (cond (ltb 2048 m) 4 (cond (ltb 2048 k) 5 (cond (ltb 16384 w) 6 0)))
+-- the first table that is too long, or 6 for the whole, or none
+unfoldable pub long_table : ℕ → ℕ → ℕ → ℕ → Option ℕ
+long_table n m k w = cond (ltb 1024 n) (Some 3) (cond (ltb 2048 m) (Some 4) (cond (ltb 2048 k) (Some 5) (cond (ltb 16384 w) (Some 6) None)))
 
 -- the sheet is good: nothing of 1 to 4 is wrong
 pub record Passed (s : List ℕ) : Type 0 where

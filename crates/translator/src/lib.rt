@@ -11,26 +11,26 @@ ghost use Rattle.listing.specs.Expand.{too_many};
 ghost use Rattle.translator.specs.Translation.{translation, room_after};
 ghost use Rattle.translator.specs.Outcome.{Passed, long_table};
 
-use answers::Answer;
+use answers::{Answer, Done, Refusal};
 
-// The first of tables 3, 4 and 5 that is too long, 6 if the whole is, or 0.
+// The first of tables 3, 4 and 5 that is too long, 6 if the whole is, or none.
 #[tactic(auto, unfolding(crate::specs::Outcome::long_table))]
-fn too_long(n: usize, m: usize, k: usize, words: usize) -> u32
+fn too_long(n: usize, m: usize, k: usize, words: usize) -> Option<u32>
     ensures { result ≡ long_table n m k words }
 {
     if n > 1024 {
-        return 3;
+        return Some(3);
     }
     if m > 2048 {
-        return 4;
+        return Some(4);
     }
     if k > 2048 {
-        return 5;
+        return Some(5);
     }
     if words > 16384 {
-        return 6;
+        return Some(6);
     }
-    0
+    None
 }
 
 // The answers after 13, for a good sheet whose choices are listed; the book is written once nothing is wrong.
@@ -43,20 +43,19 @@ fn finish(sheet: &[u32], list: &[u64], numbers: &[u32], room: &mut [u32]) -> Ans
     let m = all.names;
     let k = all.atoms;
     let words = words::number_at(sheet, 9) + 4 * n + 2 * m + 6 * k;
-    let table = too_long(n, m, k, words);
-    if table != 0 {
-        return Answer::TooLong { table };
+    if let Some(table) = too_long(n, m, k, words) {
+        return Err(Refusal::TooLong { table });
     }
     if room.len() < words {
-        return Answer::RoomTooShort {
+        return Err(Refusal::RoomTooShort {
             words: words as u32,
-        };
+        });
     }
     writing::put_book(sheet, list, numbers, m, k, room);
-    Answer::Done {
+    Ok(Done {
         a: words as u32,
         b: n as u32,
-    }
+    })
 }
 
 // Translates a sheet into the book that says the same, at the start of the lent room, and answers what is wrong or how many
@@ -64,19 +63,12 @@ fn finish(sheet: &[u32], list: &[u64], numbers: &[u32], room: &mut [u32]) -> Ans
 pub fn translate(sheet: &[u32], room: &mut [u32]) -> Answer
     ensures { (numbers_of result ≡ translation sheet.now (length room.old)) × (room.new ≡ room_after sheet.now room.old) }
 {
-    let r = book::check(sheet, 2);
-    let fault = answers::numbers_of(r);
-    if fault.number != 0 {
-        return r;
-    }
+    book::check(sheet, 2)?;
     let mut items: [u64; 4097] = [0; 4097];
     let mut numbers: [u32; 64] = [0; 64];
-    let listed = listing::list_rules(sheet, &mut items, &mut numbers);
     let rules = words::number_at(sheet, 6);
-    let rule = listed.rule;
-    if rule < rules {
-        return Answer::TooManyAlternatives { rule: rule as u32 };
+    match listing::list_rules(sheet, &mut items, &mut numbers) {
+        Ok(n) => finish(sheet, &items[..n], &numbers[..rules], room),
+        Err(rule) => Err(Refusal::TooManyAlternatives { rule: rule as u32 }),
     }
-    let n = listed.items;
-    finish(sheet, &items[..n], &numbers[..rules], room)
 }

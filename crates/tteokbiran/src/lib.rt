@@ -1,4 +1,6 @@
-// The library for C: the exported functions, each with the clauses of the function that it calls.
+// The library for C: the exported functions, each with the clauses of the function that it calls. A crate is a library or a static
+// library, not both: so each function stands in a front crate, for the crates above it, and here once more, and passes on to it. The
+// numbers go out one by one: the C interface has them so.
 #![tactic(auto)]
 
 ghost use Rattle.std.specs.Prelude.{◌≡◌, length};

@@ -1,14 +1,14 @@
 -- One step of the judge's two loops, over trigger tokens and over rules, in the words of the code: what the whole comes to is what is
 -- passed and what the rest comes to. Assumes nothing.
 use mathlib.Core.Path.{◌≡◌, refl, sym, ap, ◌∙◌}
-use mathlib.Core.Bool.{Bool, true, false, ◌&&◌, not, true≢false, false≢true}
+use mathlib.Core.Bool.{Bool, true, false, ◌&&◌, not}
 use mathlib.Core.List.{List, [], ◌∷◌}
 use Prim.Native.Nat.{ℕ, zero, suc, ◌+◌, ◌-◌, ◌*◌, ◌^◌, ◌≤◌, ◌<◌}
 use native.Mathlib.Numerals.{sub-one}
 use native.Mathlib.Nat.{add-zero, sub-zero}
 use native.Mathlib.Omega.{arith}
-use lib.Dec.{ltb, eqb}
-use borrow.Author.Tests.{lt-ltb, le-ltb, eq-eqb, ne_eqb}
+use lib.Dec.{eqb}
+use borrow.Author.Tests.{eq-eqb, ne_eqb}
 use Rattle.words.specs.Words.{word}
 use Rattle.words.specs.Runs.{run}
 use Rattle.clock.specs.Clock.{no_limit}
@@ -20,10 +20,9 @@ use Rattle.lines.specs.Lines.{token as plan-token, token_width, job_at, line_pla
 use Rattle.lines.proofs.Width.{width_few}
 use Rattle.choice.specs.Met.{nobody, met}
 use Rattle.choice.specs.Asked.{ask_holds, met_at}
-use Rattle.verdict.specs.declared.Tally.{Tally}
 use Rattle.verdict.specs.Judged.{no_rule, counted, trigger_line, is_trigger, examined, unmet, first_unmet, rule_unmet, rules_fault}
 use Rattle.verdict.proofs.Passed.{Passed, passed_none, passed-step, passed_bad, passed-all}
-use Rattle.verdict.specs.Survey.{placed_rule, placed_rules, placed_fault, Surveyed}
+use Rattle.verdict.specs.Survey.{placed_rule, placed_rules, placed_fault, AllMet, OneUnmet}
 
 -- ---- what is left of a line, and of the rules
 
@@ -149,23 +148,21 @@ module _ {e : ℕ} {b p : List ℕ} {place n at start token seen v f m : ℕ} (h
 
   -- it is one, and the rule isn't
   pub line-unmet : (t : Token) (y : Bool) → w ≡ v → t ≡ plan-token (word p at) start (start + d) (job_at p at)
-      → y ≡ met_at e b p t m (offset b 3 + 4 * f) → not y ≡ true → Surveyed e b p place (record { unmet = ltb token n; token = token; count = seen })
+      → y ≡ met_at e b p t m (offset b 3 + 4 * f) → not y ≡ true → OneUnmet e b p place token
   unfolding rule_unmet first_unmet
   line-unmet t y same ht hy missed =
       let is : next ≡ t = ap (λ (z : ℕ). plan-token z start (start + d) (job_at p at)) hw ∙ sym ht in
       let bad = passed_bad next ahead (failing-is e b p r next ∙ rw (eq-eqb w v same, is, ← hy, missed)) in
-      let here = lt-ltb token n more in
-      record { unmet = here ∙ sym bad.0; token = λ _. bad.1; count = λ z. absurd (true≢false (sym here ∙ z)) }
+      record { unmet = bad.0; token = bad.1 }
 
 -- all are passed
 pub line-end : {e : ℕ} {b p : List ℕ} {place n at start token seen : ℕ} → OnLine e b p place n at start token seen → n ≤ token
-    → Surveyed e b p place (record { unmet = ltb token n; token = token; count = seen })
+    → AllMet e b p place seen
 unfolding rule_unmet first_unmet counted
 line-end {p = p} {n = n} {at = at} {start = start} {token = token} h over =
     let none : n - token ≡ 0 = omega arith in
     let all = passed-all (rw (tokens_none p (n - token) at start none) at h.passed) refl in
-    let past = le-ltb token n over in
-    record { unmet = past ∙ sym all.0; token = λ z. absurd (false≢true (sym past ∙ z)); count = λ _. all.1 }
+    record { unmet = all.0; count = all.1 }
 
 -- ---- a rule without trigger
 
@@ -181,79 +178,76 @@ module _ (e : ℕ) (b p : List ℕ) (place : ℕ) (none : word b place ≡ no_li
   unfolding is_trigger rule_at
   bare_one = rw none
 
-  -- whether the rule is met for nobody is all that there is to tell
-  bare_told : (z : Bool) → failing e b p place nobody ≡ z → Surveyed e b p place (record { unmet = z; token = 0; count = 1 })
-  unfolding rule_unmet first_unmet counted
-  bare_told true e =
-      let bad = passed_bad nobody bare_line e in
-      record { unmet = sym bad.0; token = λ _. bad.1; count = λ z. absurd (true≢false z) }
-  bare_told false e =
-      let all = passed-all (passed-step nobody 1 bare_line e (rw bare_one)) refl in
-      record { unmet = sym all.0; token = λ z. absurd (false≢true z); count = λ _. all.1 }
+  -- the search tells whether it is met, which is all that there is to tell
+  module _ (f m : ℕ) (t : Token) (hf : f ≡ word b (place + 2)) (hm : m ≡ word b (place + 3)) (ht : t ≡ nobody) where
+    bare_is : (y : Bool) → y ≡ met_at e b p t m (offset b 3 + 4 * f) → failing e b p place nobody ≡ not y
+    unfolding unmet
+    bare_is y hy = rw (bare_one, met_at_lem e b p place nobody, ← hf, ← hm, ← ht, ← hy)
 
-  -- the search tells whether it is met
-  pub bare : (f m : ℕ) (t : Token) (y : Bool) → f ≡ word b (place + 2) → m ≡ word b (place + 3) → t ≡ nobody
-      → y ≡ met_at e b p t m (offset b 3 + 4 * f) → Surveyed e b p place (record { unmet = not y; token = 0; count = 1 })
-  unfolding unmet
-  bare f m t y hf hm ht hy = bare_told (not y) (rw (bare_one, met_at_lem e b p place nobody, ← hf, ← hm, ← ht, ← hy))
+    pub bare-met : (y : Bool) → y ≡ met_at e b p t m (offset b 3 + 4 * f) → y ≡ true → AllMet e b p place 1
+    unfolding rule_unmet first_unmet counted
+    bare-met y hy met =
+        let all = passed-all (passed-step nobody 1 bare_line (bare_is y hy ∙ ap not met) (rw bare_one)) refl in
+        record { unmet = all.0; count = all.1 }
+
+    pub bare-unmet : (y : Bool) → y ≡ met_at e b p t m (offset b 3 + 4 * f) → y ≡ false → OneUnmet e b p place 0
+    unfolding rule_unmet first_unmet
+    bare-unmet y hy missed =
+        let bad = passed_bad nobody bare_line (bare_is y hy ∙ ap not missed) in
+        record { unmet = bad.0; token = bad.1 }
 
 -- ---- rules
 
--- `rule` of the n rules are passed, each met; the next stands at `place`, and no place wraps
-pub record OnRules (e : ℕ) (b p : List ℕ) (n place rule seen : ℕ) : Type 0 where
-  pub within : rule ≤ n
-  pub near : place + 4 * (n - rule) < 2 ^ 60
+-- `rule` of the n rules are passed, each met; they stand from o on
+pub record OnRules (e : ℕ) (b p : List ℕ) (n o rule seen : ℕ) : Type 0 where
   pub passed :
-      Passed (rule_unmet (ask_holds e b) (line_of p)) (examined (line_of p)) (placed_rules e b) (run (placed_rule e b) 4 (n - rule) place) rule seen
+      Passed (rule_unmet (ask_holds e b) (line_of p)) (examined (line_of p)) (placed_rules e b) (run (placed_rule e b) 4 (n - rule) (o + 4 * rule)) rule seen
 
 -- none is passed
-pub rules_start : (e : ℕ) (b p : List ℕ) (n place : ℕ) → n ≡ count b 2 → place ≡ offset b 2 → n < 2 ^ 32 → place < 2 ^ 32 → OnRules e b p n place 0 0
+pub rules_start : (e : ℕ) (b p : List ℕ) (n o : ℕ) → n ≡ count b 2 → o ≡ offset b 2 → OnRules e b p n o 0 0
 unfolding rules_of
-rules_start e b p n place hn hp ln lp =
-    record { within = omega arith; near = omega arith; passed = rw (hn, hp, sub-zero) (passed_none _) }
+rules_start e b p n o hn ho =
+    let first : o + 4 * 0 ≡ o = omega arith in
+    record { passed = rw (first, hn, ho, sub-zero) (passed_none _) }
 
-module _ {e : ℕ} {b p : List ℕ} {n place rule seen : ℕ} (h : OnRules e b p n place rule seen) (more : rule < n) (s : Tally)
-    (hs : Surveyed e b p place s) where
+module _ {e : ℕ} {b p : List ℕ} {n o rule seen : ℕ} (h : OnRules e b p n o rule seen) (more : rule < n) where
   -- the rule at the place is the next, and then come those after it
   rules_ahead :
       Passed (rule_unmet (ask_holds e b) (line_of p)) (examined (line_of p)) (placed_rules e b)
-      (placed_rule e b place ∷ run (placed_rule e b) 4 (n - (rule + 1)) (place + 4)) rule seen
+      (placed_rule e b (o + 4 * rule) ∷ run (placed_rule e b) 4 (n - (rule + 1)) (o + 4 * (rule + 1))) rule seen
   rules_ahead =
       let left : n - rule - 1 ≡ n - (rule + 1) = omega arith in
+      let next : o + 4 * rule + 4 ≡ o + 4 * (rule + 1) = omega arith in
       let some : 0 < n - rule = omega arith in
-      rw (run_step (placed_rule e b) 4 (n - rule) place some, left) at h.passed
+      rw (run_step (placed_rule e b) 4 (n - rule) (o + 4 * rule) some, left, next) at h.passed
 
-  -- what it comes to
-  rules_more : s.unmet ≡ false
-      → examined (line_of p) (placed_rule e b place ∷ run (placed_rule e b) 4 (n - (rule + 1)) (place + 4))
-      ≡ s.count + examined (line_of p) (run (placed_rule e b) 4 (n - (rule + 1)) (place + 4))
-  unfolding examined
-  rules_more fine = rw (hs.count fine)
+  module _ (c : ℕ) (s : AllMet e b p (o + 4 * rule) c) where
+    -- what it comes to
+    rules_more :
+        examined (line_of p) (placed_rule e b (o + 4 * rule) ∷ run (placed_rule e b) 4 (n - (rule + 1)) (o + 4 * (rule + 1)))
+        ≡ c + examined (line_of p) (run (placed_rule e b) 4 (n - (rule + 1)) (o + 4 * (rule + 1)))
+    unfolding examined
+    rules_more = rw s.count
 
-  -- it is met
-  pub rules_met : s.unmet ≡ false → OnRules e b p n (place + 4) (rule + 1) (seen + s.count)
-  rules_met fine =
-      record {
-        within = omega arith;
-        near = omega (arith, h.near);
-        passed = passed-step (placed_rule e b place) s.count rules_ahead (sym hs.unmet ∙ fine) (rules_more fine);
-      }
+    -- it is met
+    pub rules_met : OnRules e b p n o (rule + 1) (seen + c)
+    rules_met = record { passed = passed-step (placed_rule e b (o + 4 * rule)) c rules_ahead s.unmet rules_more }
 
-  -- and the count goes on to fit
-  pub rules_fit : s.unmet ≡ false → examined (line_of p) (placed_rules e b) < 2 ^ 32 → seen + s.count < 2 ^ 32
-  rules_fit fine few = omega (arith, rules_ahead.sum, rules_more fine)
+    -- and the count goes on to fit
+    pub rules_fit : examined (line_of p) (placed_rules e b) < 2 ^ 32 → seen + c < 2 ^ 32
+    rules_fit few = omega (arith, rules_ahead.sum, rules_more)
 
   -- it isn't
-  pub rules_unmet : s.unmet ≡ true → numbers 12 rule s.token ≡ placed_fault e b p
+  pub rules_unmet : (token : ℕ) → OneUnmet e b p (o + 4 * rule) token → numbers 12 rule token ≡ placed_fault e b p
   unfolding placed_fault rules_fault
-  rules_unmet unmet =
-      let bad = passed_bad (placed_rule e b place) rules_ahead (sym hs.unmet ∙ unmet) in
-      rw (bad.0, ← bad.1, bad.2 no_rule, hs.token unmet)
+  rules_unmet token s =
+      let bad = passed_bad (placed_rule e b (o + 4 * rule)) rules_ahead s.unmet in
+      rw (bad.0, ← bad.1, bad.2 no_rule, s.token)
 
 -- all are passed
-pub rules_end : {e : ℕ} {b p : List ℕ} {n place rule seen : ℕ} → OnRules e b p n place rule seen → n ≤ rule → numbers 0 seen 0 ≡ placed_fault e b p
+pub rules_end : {e : ℕ} {b p : List ℕ} {n o rule seen : ℕ} → OnRules e b p n o rule seen → n ≤ rule → numbers 0 seen 0 ≡ placed_fault e b p
 unfolding placed_fault rules_fault examined run
-rules_end {e} {b} {p} {n} {place} {rule} h over =
+rules_end {e} {b} {p} {n} {o} {rule} h over =
     let none : n - rule ≡ 0 = omega arith in
     let all = passed-all (rw none at h.passed) refl in
     rw (all.0, all.1)

@@ -1,4 +1,5 @@
-// The judge: a book and a plan, or a sheet and a plan, each any run of words at all.
+// The judge: a book and a plan, or a sheet and a plan, each any run of words at all. The edition e stays a number: `judged_by` is said of
+// every e.
 #![tactic(auto)]
 
 ghost use Rattle.std.specs.Prelude.{◌≡◌, ◌+◌, ◌*◌, ◌<◌, ◌^◌};
@@ -10,18 +11,10 @@ ghost use Rattle.lines.specs.Lines.{token, job_at, line_of};
 ghost use Rattle.verdict.specs.Judged.{examined, judged, judged_sheet};
 ghost use Rattle.verdict.specs.Survey.{Surveyed, placed_rules, placed_fault, judged_by};
 
-use answers::Answer;
+use answers::{Answer, Done, Refusal};
 use clock::Time;
 use lines::Token;
 use words::{number_at, word_at};
-
-// What the trigger tokens of one rule came to: whether one isn't met and its number, or how many were examined.
-#[derive(Clone, Copy)]
-pub struct Tally {
-    pub unmet: bool,
-    pub token: u32,
-    pub count: u32,
-}
 
 // The token at a place of the plan, which lasts from start to end.
 fn token_at(p: &[u32], at: usize, start: u64, end: u64) -> Token
@@ -36,8 +29,8 @@ fn token_at(p: &[u32], at: usize, start: u64, end: u64) -> Token
     }
 }
 
-// The trigger tokens of the rule at a place, on its trigger's line.
-fn survey_line(e: usize, b: &[u32], p: &[u32], place: usize) -> Tally
+// How many trigger tokens the rule at a place has, on its trigger's line, or the first for which it isn't met.
+fn survey_line(e: usize, b: &[u32], p: &[u32], place: usize) -> Result<u32, u32>
     requires { (place < 2 ^ 60) × (word b.now place ≡ no_limit → ⊥) }
     ensures { Surveyed e b.now p.now place result }
 {
@@ -50,38 +43,33 @@ fn survey_line(e: usize, b: &[u32], p: &[u32], place: usize) -> Tally
     let width = lines::token_width(p);
     let mut at = lines::line_place(p, line);
     let mut start: u64 = 0;
-    let mut token: u32 = 0;
     let mut seen: u32 = 0;
-    let mut kept = [0u64; 2112];
-    while token < count {
+    let mut kept = [None; 64];
+    for token in 0..count {
         let end = start + word_at(p, at + 1) as u64;
         if word_at(p, at) == value {
             let t = token_at(p, at, start, end);
             if !matching::met(e, b, p, first, n, last, t, &mut kept) {
-                break;
+                return Err(token);
             }
             seen += 1;
         }
         start = end;
         at += width;
-        token += 1;
     }
-    Tally {
-        unmet: token < count,
-        token,
-        count: seen,
-    }
+    Ok(seen)
 }
 
-// The trigger tokens of the rule at a place; a rule without trigger needs to be met once.
-fn survey(e: usize, b: &[u32], p: &[u32], place: usize) -> Tally
+// How many trigger tokens the rule at a place has, or the first for which it isn't met. A rule without trigger needs to be met
+// once, and counts 1.
+fn survey(e: usize, b: &[u32], p: &[u32], place: usize) -> Result<u32, u32>
     requires { place < 2 ^ 60 }
     ensures { Surveyed e b.now p.now place result }
 {
     if word_at(b, place) != Time::NO_LIMIT {
         return survey_line(e, b, p, place);
     }
-    let mut kept = [0u64; 2112];
+    let mut kept = [None; 64];
     let met = matching::met(
         e,
         b,
@@ -92,15 +80,11 @@ fn survey(e: usize, b: &[u32], p: &[u32], place: usize) -> Tally
         choice::nobody(),
         &mut kept,
     );
-    Tally {
-        unmet: !met,
-        token: 0,
-        count: 1,
-    }
+    if met { Ok(1) } else { Err(0) }
 }
 
-// The trigger tokens of one rule of a book, by its number.
-pub fn survey_rule(book: &[u32], plan: &[u32], rule: u32) -> Tally
+// How many trigger tokens one rule of a book has, by its number, or the first for which it isn't met.
+pub fn survey_rule(book: &[u32], plan: &[u32], rule: u32) -> Result<u32, u32>
     ensures { Surveyed 1 book.now plan.now (record_at 1 book.now 2 rule) result }
 {
     let place = number_at(book, 7) + rule as usize * 4;
@@ -113,36 +97,24 @@ pub fn examine(e: usize, b: &[u32], p: &[u32]) -> Answer
     ensures { numbers_of result ≡ placed_fault e b.now p.now }
 {
     let n = word_at(b, 6);
-    let mut place = number_at(b, 7);
-    let mut rule: u32 = 0;
+    let table = number_at(b, 7);
     let mut seen: u32 = 0;
-    while rule < n {
-        let s = survey(e, b, p, place);
-        if s.unmet {
-            return Answer::RuleNotMet {
-                rule,
-                token: s.token,
-            };
+    for rule in 0..n {
+        let place = table + 4 * rule as usize;
+        match survey(e, b, p, place) {
+            Ok(count) => seen += count,
+            Err(token) => return Err(Refusal::RuleNotMet { rule, token }),
         }
-        seen += s.count;
-        place += 4;
-        rule += 1;
     }
-    Answer::Done { a: seen, b: 0 }
+    Ok(Done { a: seen, b: 0 })
 }
 
 // The judge for edition 1, a book, or 2, a sheet.
 fn judge_by(e: usize, b: &[u32], p: &[u32]) -> Answer
     ensures { numbers_of result ≡ judged_by e b.now p.now }
 {
-    let first = book::check(b, e);
-    if answers::numbers_of(first).number != 0 {
-        return first;
-    }
-    let second = plan::check(b, p);
-    if answers::numbers_of(second).number != 0 {
-        return second;
-    }
+    book::check(b, e)?;
+    plan::check(b, p)?;
     examine(e, b, p)
 }
 

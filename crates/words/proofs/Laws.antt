@@ -1,11 +1,17 @@
--- How many words there are, and what one more store makes of them. Assumes nothing.
-use mathlib.Core.Path.{◌≡◌, refl, sym, ◌∙◌}
+-- A record's first word; how many words there are, and what one more store makes of them. Assumes nothing.
+use mathlib.Core.Path.{◌≡◌, refl, sym, ap, ◌∙◌}
 use mathlib.Core.List.{List, ◌++◌}
 use Prim.Native.Nat.{ℕ, zero, suc, ◌+◌, ◌/◌, ◌<◌}
+use native.Mathlib.Nat.{add-zero}
 use native.Mathlib.Numerals.{add-one}
 use lib.ListN.{length, drop, set, length-append}
 use lib.Seq.{drop-cons, set_at, append_snoc}
+use Rattle.words.specs.Words.{word}
 use Rattle.words.specs.Bytes.{byte_word, words_to, words_of}
+
+-- word 0 of a record stands at the record's place
+pub first_word : (b : List ℕ) (k : ℕ) → word b (k + 0) ≡ word b k
+first_word b k = ap (word b) (add-zero k)
 
 -- the first n words are n
 pub length_words_to : (s : List ℕ) (n : ℕ) → length (words_to s n) ≡ n

@@ -1,6 +1,6 @@
 -- The laws of what specs/Least defines. Assumes nothing.
 use mathlib.Core.Path.{◌≡◌, refl, sym, ap, ◌∙◌, subst}
-use mathlib.Core.Bool.{Bool, true, false, ◌||◌, cond}
+use mathlib.Core.Bool.{Bool, true, false, ◌||◌, cond, not}
 use mathlib.Core.Logic.{◌↔◌, ⊎_elim}
 use mathlib.Core.List.{List, [], ◌∷◌}
 use Prim.Native.Nat.{ℕ, zero, suc, ◌+◌, ◌≤◌, ◌<◌}
@@ -10,6 +10,9 @@ use native.Mathlib.Omega.{arith}
 use lib.Dec.{ltb}
 use lib.ListN.{length, get_or}
 use borrow.Author.Tests.{ltb-false, le-ltb}
+use Rattle.std.specs.Prelude.{Some, None}
+use Rattle.std.specs.List.{position, position_or_len}
+use Rattle.std.specs.Option.{unwrap_or}
 use Rattle.words.specs.Lists.{any}
 use Rattle.words.specs.Least.{least_from, least, first, Clear, Least}
 
@@ -107,6 +110,10 @@ scan_at {n} {m} {p} {i} h l s e q = least_at n p i h (omega arith) (sym e ∙ q)
 pub scan_end : {n m : ℕ} {p : ℕ → Bool} {i : ℕ} → Clear p i → i ≤ m → m ≤ i → m ≡ n → i ≡ least n p
 scan_end {n} {m} {p} {i} h l g s = least-end n p i h (omega arith) (omega arith)
 
+-- the same where the loop's end is the answer
+pub scan_all : {n m : ℕ} {p : ℕ → Bool} {i : ℕ} → Clear p i → i ≤ m → m ≤ i → m ≡ n → m ≡ least n p
+scan_all {n} {m} {p} {i} h l g s = omega (arith, scan_end h l g s)
+
 -- all of them, to search with
 pub ruleset scan = (clear_none, scan_more, scan_at, scan_end)
 
@@ -168,3 +175,20 @@ module _ {A : Type 0} (p : A → Bool) where
       step : (t : Bool) → (t || any p xs) ≡ true → (any p xs ≡ true → first p xs < length xs) → cond t 0 (suc (first p xs)) < suc (length xs)
       step true z rest = omega arith
       step false z rest = omega (arith, rest z)
+
+  -- what the library's `position` gives, and the length where it gives none
+  pub first_position : (xs : List A) → unwrap_or (position p xs) (length xs) ≡ first p xs
+  unfolding first
+  first_position xs = rw (or_len xs) (whole _ _ _ (first_le xs) refl)
+    where
+      or_len : (xs : List A) → position_or_len p xs ≡ first p xs
+      or_len [] = refl
+      or_len (x ∷ xs) = step (p x) _ _ (or_len xs)
+        where
+          step : (t : Bool) (n m : ℕ) → n ≡ m → cond (not t) (1 + n) 0 ≡ cond t 0 (suc m)
+          step true n m h = refl
+          step false n m h = omega arith
+
+      whole : (t : Bool) (n m : ℕ) → n ≤ m → ltb n m ≡ t → unwrap_or (cond t (Some n) None) m ≡ n
+      whole true n m h e = refl
+      whole false n m h e = omega (arith, ltb-false n m e)

@@ -1,12 +1,13 @@
 -- The laws of what specs/Write defines. Assumes nothing.
 use mathlib.Core.Path.{◌≡◌, refl, sym, ap, ◌∙◌}
-use Prim.Native.Nat.{ℕ, suc, ◌+◌, ◌≤◌, ◌<◌}
+use Prim.Native.Nat.{ℕ, suc, ◌+◌, ◌-◌, ◌≤◌, ◌<◌}
 use native.Mathlib.Numerals.{add-one}
 use native.Mathlib.Nat.{add-zero}
 use native.Mathlib.Omega.{arith}
-use mathlib.Core.List.{List, [], ◌∷◌, ◌++◌}
+use mathlib.Core.List.{List, [], ◌∷◌, ◌++◌, append_assoc}
 use lib.ListN.{length, take, drop, set, length-set, length-append}
-use lib.Seq.{sets, sets-eq, take-suc, length-take-le}
+use lib.Seq.{sets, sets-eq, take-suc, length-take-le, drop-drop}
+use borrow.Rule.Slice.PartMut.{put_mid}
 use Rattle.words.specs.Words.{word}
 use Rattle.words.specs.Write.{puts, Wrote, Has}
 
@@ -53,3 +54,10 @@ has_first xs ys h = record { fits = omega (arith, h.fits, length-append xs ys) }
 pub has_second : {b m : List ℕ} {at k : ℕ} {xs : List ℕ} (ys : List ℕ) → Wrote b m at k xs → Has b at (xs ++ ys) → Has m k ys
 has_second {b} {m} {at} {k} {xs} ys w h =
     record { fits = omega (arith, h.fits, length-append xs ys, w.next, ap length w.same ∙ length-puts b at xs) }
+
+-- a part is written whole, from `at` to r
+pub wrote_part : (l : List ℕ) (at r : ℕ) (ws : List ℕ) → at + length ws ≡ r → r ≤ length l → Wrote l (put_mid at (r - at) l ws) at r ws
+wrote_part l at r ws e h = record { same = sym (puts_eq l at ws (omega arith) ∙ append_assoc (take at l) ws _ ∙ ap (λ (t : List ℕ). take at l ++ (ws ++ t)) rest); next = sym e }
+  where
+    rest : drop (at + length ws) l ≡ drop (r - at) (drop at l)
+    rest = sym (drop-drop (r - at) at l ∙ ap (λ (k : ℕ). drop k l) (omega arith))

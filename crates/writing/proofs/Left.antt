@@ -14,7 +14,7 @@ use Rattle.allen.specs.Atoms.{atoms_of}
 use Rattle.listing.specs.Items.{alt_of, asks_for, asks_from, gather, names_for, rule_for, rule_items}
 use Rattle.writing.specs.Left.{alts_left, atom_count, atom_words_from, atoms_left, count_from, item_atoms, item_names, name_count, name_words_from, names_left, rows_left, rules_left, sizes}
 use Rattle.listing.proofs.Items.{below_at}
-use Rattle.listing.proofs.Going.{drop_more, drop-none, gather_more, run_more, run_none}
+use Rattle.listing.proofs.Going.{drop_more, drop-none, gather_more, next_place, run_more, run_none}
 use Rattle.writing.specs.Compare.{relation_words}
 use Rattle.listing.specs.Listed.{sizes_from}
 
@@ -26,26 +26,30 @@ flat_append f (x ∷ xs) ys = rw (flat_append f xs ys) (sym (append_assoc (f x) 
 -- ---- one item
 
 module _ (s : List ℕ) where
-  pub name_words_more : (n i q : ℕ) → i < n → name_words_from s n i q ≡ (word s q ∷ word s (q + 1) ∷ []) ++ name_words_from s n (i + 1) (q + 2)
+  pub name_words_more : (n i o t v : ℕ) → i < n → t ≡ word s (o + 2 * i) → v ≡ word s (o + 2 * i + 1)
+      → name_words_from s n i (o + 2 * i) ≡ (t ∷ v ∷ []) ++ name_words_from s n (i + 1) (o + 2 * (i + 1))
   unfolding name_words_from flat_map name_at
-  name_words_more n i q l = rw (run_more (name_at s) 2 n i q l)
+  name_words_more n i o t v l ht hv = rw (run_more (name_at s) 2 n i (o + 2 * i) l, ht, hv, ← next_place o 2 i)
 
   pub name_words_none : (n i q : ℕ) → n ≤ i → name_words_from s n i q ≡ []
   unfolding name_words_from flat_map
   name_words_none n i q l = rw (run_none (name_at s) 2 n i q l)
 
-  pub name_words_all : (item at n : ℕ) → at ≡ offset s 4 + 2 * word s (item % 16384) → n ≡ word s (item % 16384 + 1) → item_names s item ≡ name_words_from s n 0 at
+  pub name_words_all : (item at n : ℕ) → at ≡ offset s 4 + 2 * word s (item % 16384) → n ≡ word s (item % 16384 + 1) → item_names s item ≡ name_words_from s n 0 (at + 2 * 0)
   unfolding item_names name_words_from alt_of names_for
   name_words_all item at n ha hn =
       let e : n - 0 ≡ n = omega arith in
-      rw (e, ha, hn)
+      let p : at + 2 * 0 ≡ at = omega arith in
+      rw (e, p, ha, hn)
 
-  pub atom_words_more : (k i q code l r : ℕ) → i < k → l ≡ word s q → r ≡ word s (q + 1)
-      → atom_words_from s k i q code ≡ relation_words (code % 16) l r ++ atom_words_from s k (i + 1) (q + 3) (code / 16)
+  pub atom_words_more : (k i o code l r : ℕ) → i < k → l ≡ word s (o + 3 * i) → r ≡ word s (o + 3 * i + 1)
+      → atom_words_from s k i (o + 3 * i) code ≡ relation_words (code % 16) l r ++ atom_words_from s k (i + 1) (o + 3 * (i + 1)) (code / 16)
   unfolding atom_words_from asks_from relation_words
-  atom_words_more k i q code l r lt hl hr =
+  atom_words_more k i o code l r lt hl hr =
+      let q : ℕ = o + 3 * i in
       let e : k - i ≡ suc (k - (i + 1)) = omega arith in
-      rw (e, hl, hr) (flat_append atom_words (atoms_of (code % 16) (word s q) (word s (q + 1))) (asks_from s (k - (i + 1)) (q + 3) (code / 16)))
+      rw (e, hl, hr, ← next_place o 3 i)
+      (flat_append atom_words (atoms_of (code % 16) (word s q) (word s (q + 1))) (asks_from s (k - (i + 1)) (q + 3) (code / 16)))
 
   pub atom_words_none : (k i q code : ℕ) → k ≤ i → atom_words_from s k i q code ≡ []
   unfolding atom_words_from asks_from flat_map
@@ -54,11 +58,12 @@ module _ (s : List ℕ) where
       rw e
 
   pub atom_words_all : (item q k code : ℕ) → q ≡ offset s 5 + 3 * word s (item % 16384 + 2) → k ≡ word s (item % 16384 + 3) → code ≡ item / 16384
-      → item_atoms s item ≡ atom_words_from s k 0 q code
+      → item_atoms s item ≡ atom_words_from s k 0 (q + 3 * 0) code
   unfolding item_atoms atom_words_from alt_of asks_for
   atom_words_all item q k code hq hk hc =
       let e : k - 0 ≡ k = omega arith in
-      rw (e, hq, hk, hc)
+      let p : q + 3 * 0 ≡ q = omega arith in
+      rw (e, p, hq, hk, hc)
 
 -- ---- how many atoms
 
@@ -161,20 +166,22 @@ module _ (s list : List ℕ) where
 
 -- ---- all rules from rule i on, of n, at the place q; the next alternative is number k
 
-module _ (s : List ℕ) (n i q k : ℕ) where
-  pub rules_more : i < n → (a v m : ℕ) → a ≡ word s q → v ≡ word s (q + 1) → m ≡ length (rule_items s q)
-      → rules_left s n i q k ≡ (a ∷ v ∷ k ∷ m ∷ []) ++ rules_left s n (i + 1) (q + 4) (k + m)
+module _ (s : List ℕ) (n i o k : ℕ) where
+  pub rules_more : i < n → (a v m : ℕ) → a ≡ word s (o + 4 * i) → v ≡ word s (o + 4 * i + 1) → m ≡ length (rule_items s (o + 4 * i))
+      → rules_left s n i (o + 4 * i) k ≡ (a ∷ v ∷ k ∷ m ∷ []) ++ rules_left s n (i + 1) (o + 4 * (i + 1)) (k + m)
   unfolding rules_left rows rule_for
-  rules_more l a v m ha hv hm = rw (run_more (rule_for s) 4 n i q l, ha, hv, hm, length-map (rule_items s q) (alt_of s))
+  rules_more l a v m ha hv hm =
+      rw (run_more (rule_for s) 4 n i (o + 4 * i) l, ha, hv, hm, length-map (rule_items s (o + 4 * i)) (alt_of s), ← next_place o 4 i)
 
-  pub rules_none : n ≤ i → rules_left s n i q k ≡ []
+  pub rules_none : n ≤ i → rules_left s n i (o + 4 * i) k ≡ []
   unfolding rules_left rows
-  rules_none l = rw (run_none (rule_for s) 4 n i q l)
+  rules_none l = rw (run_none (rule_for s) 4 n i (o + 4 * i) l)
 
 -- ---- a rule's number of items, and its part of the list
 
-pub gather-long : (f : ℕ → List ℕ) (w n i q : ℕ) → i < n → length (gather f w (n - i) q) ≡ length (f q) + length (gather f w (n - (i + 1)) (q + w))
-gather-long f w n i q l = ap length (gather_more f w n i q l) ∙ length-append (f q) (gather f w (n - (i + 1)) (q + w))
+pub gather-long : (f : ℕ → List ℕ) (w n i o : ℕ) → i < n
+    → length (gather f w (n - i) (o + w * i)) ≡ length (f (o + w * i)) + length (gather f w (n - (i + 1)) (o + w * (i + 1)))
+gather-long f w n i o l = ap length (gather_more f w n i o l) ∙ length-append (f (o + w * i)) (gather f w (n - (i + 1)) (o + w * (i + 1)))
 
 module _ (s numbers : List ℕ) (n o : ℕ) (h : numbers ≡ sizes_from s n o) where
   -- as many numbers as rules
@@ -183,6 +190,8 @@ module _ (s numbers : List ℕ) (n o : ℕ) (h : numbers ≡ sizes_from s n o) w
   sizes-long = ap length h ∙ length_run (λ (k : ℕ). length (rule_items s k)) 4 n o
 
   -- number i is that of rule i
-  pub sizes-at : (i q : ℕ) → i < length numbers → q ≡ o + i * 4 → get_or numbers i 0 ≡ length (rule_items s q)
+  pub sizes-at : (i q : ℕ) → i < length numbers → q ≡ o + 4 * i → get_or numbers i 0 ≡ length (rule_items s q)
   unfolding sizes_from
-  sizes-at i q l e = rw (h, e) (run_at (λ (k : ℕ). length (rule_items s k)) 4 n o i 0 (omega (arith, sizes-long)))
+  sizes-at i q l e =
+      let p : q ≡ o + i * 4 = omega arith in
+      rw (h, p) (run_at (λ (k : ℕ). length (rule_items s k)) 4 n o i 0 (omega (arith, sizes-long)))

@@ -2,3 +2,4 @@
 pub mod Compare
 pub mod Left
 pub mod Whole
+pub mod Writing

@@ -18,7 +18,6 @@ use Rattle.listing.specs.Items.{all_items, alt_of, rule_for, rules_by}
 use Rattle.listing.proofs.Bridge.{alternatives_are, rules_are}
 use Rattle.writing.specs.Left.{alts_left, atom_count, atoms_left, name_count, names_left, rows_left, rules_left}
 use Rattle.listing.specs.Expand.{rules_for}
-use Rattle.listing.proofs.Going.{run-all}
 use Rattle.listing.proofs.Sheet.{sheet_fits}
 use Rattle.writing.specs.Book.{table_words, translated}
 
@@ -86,7 +85,8 @@ module _ (s : List ℕ) (sound : Sound 2 s) where
       → translated s ≡ head s (length list) (name_count s list 0) (atom_count s list 0) ++ (copied s ++ tables_by s list)
   unfolding tables_by rules_left rows_left names_left atoms_left name_count atom_count alts_left rules_by
   book_is list e =
-      let r : rules_for s ≡ run (rule_for s) 4 (count s 2 - 0) (offset s 2) = rules_are s (sheet_fits s sound) ∙ run-all (rule_for s) 4 (count s 2) (offset s 2) in
+      let n0 : count s 2 - 0 ≡ count s 2 = omega arith in
+      let r : rules_for s ≡ run (rule_for s) 4 (count s 2 - 0) (offset s 2) = rw n0 (rules_are s (sheet_fits s sound)) in
       let n : length (map (alt_of s) list) ≡ length list = length-map list (alt_of s) in
       rw (← r, ← n) (tables_are (map (alt_of s) list) (alts ∙ ap (map (alt_of s)) (sym e)))
 

@@ -26,15 +26,26 @@ compared zero l r = []
 compared (suc k) l r =
     (suc k) / 16 % 2 ∷ side ((suc k) / 8 % 2) l r ∷ (suc k) / 4 % 2 ∷ side ((suc k) / 2 % 2) l r ∷ (suc k) % 2 ∷ upper ((suc k) % 2) ∷ []
 
--- the first, second and third comparison of each relation
-abbrev pub firsts : List ℕ
-firsts = 51 ∷ 50 ∷ 35 ∷ 35 ∷ 35 ∷ 34 ∷ 34 ∷ 34 ∷ 41 ∷ 41 ∷ 41 ∷ 56 ∷ 57 ∷ 0 ∷ 0 ∷ 0 ∷ []
-
-abbrev pub seconds : List ℕ
-seconds = 0 ∷ 0 ∷ 45 ∷ 54 ∷ 61 ∷ 55 ∷ 54 ∷ 61 ∷ 55 ∷ 54 ∷ 39 ∷ 0 ∷ 0 ∷ 0 ∷ 0 ∷ 0 ∷ []
-
-abbrev pub thirds : List ℕ
-thirds = 0 ∷ 0 ∷ 55 ∷ 0 ∷ 0 ∷ 0 ∷ 0 ∷ 0 ∷ 0 ∷ 0 ∷ 61 ∷ 0 ∷ 0 ∷ 0 ∷ 0 ∷ 0 ∷ []
+-- the three comparisons of each relation
+abbrev pub comparisons : List (List ℕ)
+comparisons =
+    (51 ∷ 0 ∷ 0 ∷ [])
+    ∷ (50 ∷ 0 ∷ 0 ∷ [])
+    ∷ (35 ∷ 45 ∷ 55 ∷ [])
+    ∷ (35 ∷ 54 ∷ 0 ∷ [])
+    ∷ (35 ∷ 61 ∷ 0 ∷ [])
+    ∷ (34 ∷ 55 ∷ 0 ∷ [])
+    ∷ (34 ∷ 54 ∷ 0 ∷ [])
+    ∷ (34 ∷ 61 ∷ 0 ∷ [])
+    ∷ (41 ∷ 55 ∷ 0 ∷ [])
+    ∷ (41 ∷ 54 ∷ 0 ∷ [])
+    ∷ (41 ∷ 39 ∷ 61 ∷ [])
+    ∷ (56 ∷ 0 ∷ 0 ∷ [])
+    ∷ (57 ∷ 0 ∷ 0 ∷ [])
+    ∷ (0 ∷ 0 ∷ 0 ∷ [])
+    ∷ (0 ∷ 0 ∷ 0 ∷ [])
+    ∷ (0 ∷ 0 ∷ 0 ∷ [])
+    ∷ []
 
 -- the words of a relation's atoms
 unfoldable pub relation_words : ℕ → ℕ → ℕ → List ℕ

@@ -3,3 +3,4 @@ pub mod Book
 pub mod Compare
 pub mod Left
 pub mod Whole
+pub mod Writing

@@ -1,17 +1,14 @@
--- `allen::order` meets its contract, test by test. Assumes nothing.
+-- `allen::order` meets its contract, by what the comparison says. Assumes nothing.
+use mathlib.Core.Path.{sym, ◌∙◌}
 use native.Mathlib.Omega.{arith}
-use borrow.Author.Tests.{lt-ltb, le-ltb, eq-eqb, ne_eqb}
-use Rattle.allen.specs.Order.{order_of}
+use Rattle.allen.proofs.Laws.{order-is}
 use Rattle.allen.proofs.order.Goals as goal
 
-pub returns-then-a-b : goal.returns-then-a-b
-unfolding order_of
-returns-then-a-b c = (rw (lt-ltb _ _ c.if-a-b.true), omega arith)
+pub returns-in-Less : goal.returns-in-Less
+returns-in-Less c = (order-is _ _ _ (sym c.in-Less.is ∙ c.cmp.ensures), omega arith)
 
-pub returns-then-a-b-2 : goal.returns-then-a-b-2
-unfolding order_of
-returns-then-a-b-2 c = (rw (le-ltb _ _ c.if-a-b.false, eq-eqb _ _ c.if-a-b-2.true), omega arith)
+pub returns-in-Equal : goal.returns-in-Equal
+returns-in-Equal c = (order-is _ _ _ (sym c.in-Equal.is ∙ c.cmp.ensures), omega arith)
 
-pub returns-else-a-b-2 : goal.returns-else-a-b-2
-unfolding order_of
-returns-else-a-b-2 c = (rw (le-ltb _ _ c.if-a-b.false, ne_eqb _ _ c.if-a-b-2.false), omega arith)
+pub returns-in-Greater : goal.returns-in-Greater
+returns-in-Greater c = (order-is _ _ _ (sym c.in-Greater.is ∙ c.cmp.ensures), omega arith)

@@ -4,7 +4,4 @@ use Rattle.bounds.proofs.Raising.{Through}
 use Rattle.bounds.proofs.close.Given as goal
 
 abbrev pub invariant-loop-k : goal.invariant-loop-k
-invariant-loop-k l = (1 ≤ l.k) × (l.k ≤ 12) × Through l.k l.initial.w l.w
-
-abbrev pub decreases-loop-k : goal.decreases-loop-k
-decreases-loop-k l = l.k
+invariant-loop-k l = (1 ≤ l.k) × Through l.k l.initial.w l.w

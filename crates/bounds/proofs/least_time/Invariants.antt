@@ -1,11 +1,7 @@
 -- The invariant of `bounds::least_time`: best is the least that the bounds from the first i times allow. Assumes nothing.
-use Prim.Native.Nat.{◌-◌, ◌≤◌}
 use Rattle.bounds.specs.Bounds.{times}
 use Rattle.bounds.specs.Steps.{Reached}
 use Rattle.bounds.proofs.least_time.Given as goal
 
 abbrev pub invariant-loop-i : goal.invariant-loop-i
-invariant-loop-i l = (1 ≤ l.i) × (l.i ≤ l.k) × Reached l.w l.k l.i (times l.x) l.best
-
-abbrev pub decreases-loop-i : goal.decreases-loop-i
-decreases-loop-i l = l.k - l.i
+invariant-loop-i l = Reached l.w l.k l.i (times l.x) l.best

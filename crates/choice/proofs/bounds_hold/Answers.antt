@@ -4,5 +4,5 @@ use Rattle.choice.proofs.bounds_hold.Goals as goal
 
 pub returns : goal.returns
 returns c =
-    atom_is _ _ _ _ _ _ _ _ _ _ _ _ c.word_at.ensures c.word_at-2.ensures c.term-left.ensures
-    c.word_at-3.ensures c.word_at-4.ensures c.term-right.ensures c.word_at-5.ensures c.word_at-6.ensures c.in_bounds.ensures
+    atom_is _ _ _ _ _ _ _ _ _ _ _ _ c.word.ensures c.word-2.ensures c.term-left.ensures
+    c.word-3.ensures c.word-4.ensures c.term-right.ensures c.word-5.ensures c.word-6.ensures c.in_bounds.ensures

@@ -1,25 +1,13 @@
-use mathlib.Core.Path.{refl}
+-- `choice::job_asked` meets its contract: the ask that ties the name is one of those that all have to pass. Assumes nothing.
 use native.Mathlib.Omega.{arith}
-use Rattle.choice.proofs.SoFar.{rests_all, rests_next, tie_here, tie_none, tie_asked}
+use Rattle.choice.proofs.SoFar.{rests_after, tie_here, tie_asked}
 use Rattle.choice.proofs.job_asked.Goals as goal
 
-pub returns-then-a-k : goal.returns-then-a-k
-returns-then-a-k c =
-    tie_none _ _ _ _ _
-
-pub loop-left-init : goal.loop-left-init
-loop-left-init c =
-    (omega arith, λ a p q ne. rests_all _ a _ _ _ p q)
-
-pub returns : goal.returns
-returns c =
-    tie_none _ _ _ _ _
-
-pub returns-then-t : goal.returns-then-t
-returns-then-t c =
+pub returns-then-is_some : goal.returns-then-is_some
+returns-then-is_some c =
     let q = tie_asked _ _ c.if-a-k.false in
-    tie_here _ _ _ _ _ _ q.0 q.1 _ _ c.loop-left-test.true (c.loop-left.invariant.1 _ refl refl q.0) c.tie_at-t.ensures
+    tie_here _ _ _ _ _ q.0 q.1 _ _ (λ z. omega arith) c.loop-i.invariant c.tie_at-job.ensures
 
-pub loop-left-preserved : goal.loop-left-preserved
-loop-left-preserved c =
-    (omega arith, λ a p q ne. rests_next _ a _ _ _ ne c.loop-left-test.true (c.loop-left.invariant.1 a p q ne))
+pub loop-i-preserved : goal.loop-i-preserved
+loop-i-preserved c =
+    rests_after _ _ _ _ _ c.loop-i.i (tie_asked _ _ c.if-a-k.false).0 c.loop-i-test.true c.loop-i.invariant

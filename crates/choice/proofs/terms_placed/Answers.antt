@@ -4,5 +4,5 @@ use Rattle.choice.proofs.terms_placed.Goals as goal
 
 pub returns : goal.returns
 returns c =
-    placed_terms _ _ _ _ _ _ _ _ _ c.word_at.ensures c.word_at-2.ensures c.term_placed.ensures c.word_at-3.ensures
-    c.word_at-4.ensures c.term_placed-2.ensures
+    placed_terms _ _ _ _ _ _ _ _ _ c.word.ensures c.word-2.ensures c.term_placed.ensures c.word-3.ensures
+    c.word-4.ensures c.term_placed-2.ensures

@@ -1,33 +1,32 @@
-use Prim.Native.Nat.{◌<◌}
+-- `closing::list_alternatives` meets its contract, by the invariant in Invariants.antt. Assumes nothing.
+use mathlib.Core.Path.{refl}
 use native.Mathlib.Omega.{arith}
-use borrow.Author.Rules.{rules}
-use lib.ListN.{length}
-use Rattle.listing.proofs.Going.{begin, go, done}
-use Rattle.closing.proofs.Left.{alts_more, alts_range, alts_room, alts_none}
+use Rattle.words.proofs.Write.{has_first}
+use Rattle.closing.proofs.Left.{alts_more, alts_range, alts_none}
+use Rattle.writing.proofs.Writing.{to_start, to_go, to_done, to_room}
 use Rattle.closing.proofs.list_alternatives.Goals as goal
 
-pub loop-i-init : goal.loop-i-init
-loop-i-init c = (search rules, begin _ _ _)
+pub loop-x-init : goal.loop-x-init
+loop-x-init c = to_start _ refl
 
-pub put_numbers-at-requires : goal.put_numbers-at-requires
-put_numbers-at-requires c =
+pub put_numbers-requires : goal.put_numbers-requires
+put_numbers-requires c =
     let s = c.args.s.now in
     let left = c.args.left.now in
-    let i : c.loop-i.i < length left = omega arith in
+    let i = c.loop-x-test.true in
     let base = c.number_at-base.ensures.0 in
-    let x = c.number_at.ensures.0 in
-    let k = c.number_at-k.ensures.0 in
-    let n = c.number_at-n.ensures.0 in
-    (alts_range s left _ i _ _ _ _ base x k n c.requires.0, alts_room s left _ i _ _ _ _ base x k n c.requires.2 c.loop-i.invariant.1)
+    let k = c.number_at-in-loop-x.ensures.0 in
+    let n = c.number_at.ensures.0 in (
+      alts_range s left _ i _ _ _ _ base refl k n c.requires.0,
+      has_first _ _ (rw (alts_more s left _ i _ _ _ _ base refl k n) at (to_room c.requires.1 c.loop-x.invariant)),
+    )
 
-pub loop-i-preserved : goal.loop-i-preserved
-loop-i-preserved c =
-    let i : c.loop-i.i < length c.args.left.now = omega arith in
+pub loop-x-preserved : goal.loop-x-preserved
+loop-x-preserved c =
     let base = c.number_at-base.ensures.0 in
-    let x = c.number_at.ensures.0 in
-    let k = c.number_at-k.ensures.0 in
-    let n = c.number_at-n.ensures.0 in
-    (search rules, go c.loop-i.invariant.1 (alts_more c.args.s.now c.args.left.now _ i _ _ _ _ base x k n) c.put_numbers-at.ensures)
+    let k = c.number_at-in-loop-x.ensures.0 in
+    let n = c.number_at.ensures.0 in
+    to_go c.loop-x.invariant (alts_more c.args.s.now c.args.left.now _ c.loop-x-test.true _ _ _ _ base refl k n) c.put_numbers.ensures
 
 pub returns : goal.returns
-returns c = done c.loop-i.invariant.1 (alts_none _ _ _ (omega arith))
+returns c = to_done c.loop-x.invariant (alts_none _ _ _ (omega arith))

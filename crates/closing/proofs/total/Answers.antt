@@ -1,22 +1,21 @@
-use Prim.Native.Nat.{◌<◌}
+-- `closing::total` meets its contract: the sum of a word of each. Assumes nothing.
+use mathlib.Core.Path.{◌∙◌}
 use native.Mathlib.Omega.{arith}
 use borrow.Author.Rules.{rules}
-use lib.ListN.{length}
-use Rattle.closing.proofs.Left.{total_more, total-none}
+use borrow.Author.Tests.{tests}
+use Rattle.std.proofs.lemmas.Iterator.{YieldsList-from_slice, YieldsList-from_map}
+use Rattle.std.proofs.lemmas.Iterator.Consumers.{sum_by_from_yields_List}
+use Rattle.closing.specs.Left.{alt_word}
+use Rattle.closing.proofs.Left.{total_sum, total_small}
 use Rattle.closing.proofs.total.Goals as goal
-
-pub loop-i-init : goal.loop-i-init
-loop-i-init c = (search rules, search rules, search rules)
-
-pub loop-i-preserved : goal.loop-i-preserved
-loop-i-preserved c =
-    let e = c.args in
-    let i : c.loop-i.i < length e.alts.now = omega arith in
-    let more = total_more e.s.now e.alts.now _ i _ c.number_at.ensures.0 e.j _ c.alt_word-n.ensures.0 in
-    (search rules, omega (arith, c.alt_word-n.ensures.1), omega arith)
 
 pub returns : goal.returns
 returns c =
-    let e = c.args in
-    let none = total-none e.s.now e.alts.now c.loop-i.i (omega arith) e.j in
-    (omega arith, omega (arith, c.requires.0))
+    let s = c.args.s.now in
+    let alts = c.args.alts.now in
+    let j = c.args.j in
+    let is =
+    sum_by_from_yields_List (alt_word s j) alts _ _ c.sum.ensures.ran
+    (YieldsList-from_map _ (alt_word s j) (YieldsList-from_slice alts (search rules)) c.map.ensures.closure (λ x r q k. search (rules, tests)))
+    ∙ total_sum s j alts in
+    (is, omega (arith, is, total_small s j (λ k. (c.type_inv.s k).fits) alts, c.requires.0))

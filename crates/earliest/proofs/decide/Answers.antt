@@ -10,23 +10,23 @@ places_of-p-requires c = omega (arith, few_alternatives_lem c.args.b.now c.args.
 pub least_times-requires : goal.least_times-requires
 least_times-requires c = (fits_read c.requires.0 c.requires.1 c.trigger_of-t.ensures c.places_of-p.ensures, search rules)
 
-pub show-requires : goal.show-requires
-show-requires c = omega (arith, (fits_read c.requires.0 c.requires.1 c.trigger_of-t.ensures c.places_of-p.ensures).few)
-
-pub overflow_add-n : goal.overflow_add-n
-overflow_add-n c = omega (arith, (fits_read c.requires.0 c.requires.1 c.trigger_of-t.ensures c.places_of-p.ensures).few)
-
-pub show-requires-2 : goal.show-requires-2
-show-requires-2 c = omega (arith, (fits_read c.requires.0 c.requires.1 c.trigger_of-t.ensures c.places_of-p.ensures).few)
-
 pub returns-then-not-least_times : goal.returns-then-not-least_times
 returns-then-not-least_times c =
     no_read c.requires.0 c.requires.1 c.trigger_of-t.ensures c.places_of-p.ensures c.least_times.ensures _ c.if-not-least_times.true
 
-pub returns-then-t : goal.returns-then-t
-returns-then-t c =
-    without_read c.requires.0 c.requires.1 c.trigger_of-t.ensures c.places_of-p.ensures c.least_times.ensures c.if-not-least_times.false c.if-t.true c.show.ensures
+pub overflow_add-p : goal.overflow_add-p
+overflow_add-p c = omega (arith, (fits_read c.requires.0 c.requires.1 c.trigger_of-t.ensures c.places_of-p.ensures).few)
 
-pub returns : goal.returns
-returns c =
-    with_read c.requires.0 c.requires.1 c.trigger_of-t.ensures c.places_of-p.ensures c.least_times.ensures c.if-not-least_times.false c.if-t.false c.show-2.ensures
+pub show-requires : goal.show-requires
+show-requires c = omega (arith, (fits_read c.requires.0 c.requires.1 c.trigger_of-t.ensures c.places_of-p.ensures).few)
+
+pub show-requires-in-None : goal.show-requires-in-None
+show-requires-in-None c = omega (arith, (fits_read c.requires.0 c.requires.1 c.trigger_of-t.ensures c.places_of-p.ensures).few)
+
+pub returns-in-Some : goal.returns-in-Some
+returns-in-Some c =
+    with_read c.requires.0 c.requires.1 c.trigger_of-t.ensures c.places_of-p.ensures c.least_times.ensures _ c.if-not-least_times.false c.in-Some.is c.show.ensures
+
+pub returns-in-None : goal.returns-in-None
+returns-in-None c =
+    without_read c.requires.0 c.requires.1 c.trigger_of-t.ensures c.places_of-p.ensures c.least_times.ensures c.if-not-least_times.false c.in-None.is c.show-in-None.ensures

@@ -3,4 +3,4 @@ use Rattle.earliest.proofs.Answering.{least}
 use Rattle.earliest.proofs.least_times.Goals as goal
 
 pub returns : goal.returns
-returns c = least c.fill.ensures c.earliest.ensures
+returns c = least c.filled.ensures c.earliest.ensures

@@ -3,16 +3,14 @@ use native.Mathlib.Omega.{arith}
 use Rattle.earliest.proofs.Filling.{is_point, is-end, is-token}
 use Rattle.earliest.proofs.term_of.Goals as goal
 
-pub returns-then-kind-eq2 : goal.returns-then-kind-eq2
-returns-then-kind-eq2 c = is_point _ _ c.if-kind-eq2.true (c.requires.point c.if-kind-eq2.true)
+pub returns-in-2 : goal.returns-in-2
+returns-in-2 c = is_point _ _ c.in-2.is (c.requires.point c.in-2.is)
 
-pub returns-then-kind-eq3 : goal.returns-then-kind-eq3
-returns-then-kind-eq3 c = is-end _ _ c.if-kind-eq3.true
+pub returns-in-3 : goal.returns-in-3
+returns-in-3 c = is-end _ _ c.in-3.is
 
-pub returns : goal.returns
-returns c =
+pub returns-in_default : goal.returns-in_default
+returns-in_default c =
     let p = c.requires in
     let k = p.kinds in
-    let n = c.if-kind-eq2.false in
-    let m = c.if-kind-eq3.false in
     is-token _ _ (omega arith) (p.token (omega arith))

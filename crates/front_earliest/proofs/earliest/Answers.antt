@@ -3,4 +3,4 @@ use Rattle.earliest.proofs.Answering.{told-words}
 use Rattle.front_earliest.proofs.earliest.Goals as goal
 
 pub returns : goal.returns
-returns c = told-words c.load-m.ensures.are c.earliest.ensures
+returns c = told-words c.loaded.ensures c.earliest.ensures

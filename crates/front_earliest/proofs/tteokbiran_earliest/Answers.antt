@@ -3,4 +3,6 @@ use Rattle.earliest.proofs.Answering.{told-numbers}
 use Rattle.front_earliest.proofs.tteokbiran_earliest.Goals as goal
 
 pub returns : goal.returns
-returns c = told-numbers c.numbers_of-r.ensures c.earliest.ensures
+returns c =
+    let told = c.tell.ensures in
+    rw (told.number_after, told.a_after, told.b_after, told.c_after) (told-numbers c.numbers_of.ensures c.earliest.ensures)

@@ -6,8 +6,7 @@ use lib.ListN.{length}
 use Rattle.words.specs.Words.{word}
 use Rattle.event_list.specs.Words.{event_words}
 use Rattle.event_list.specs.Plans.{plan_lines}
-use Rattle.event_list.proofs.Sends.{none}
-use Rattle.sink.proofs.Sends.{sends_as}
+use Rattle.sink.proofs.Sends.{sends_none, sends_as}
 use Rattle.listed.proofs.Laws.{ticks_end, lines_start, events_none, whole_sent, whole-counted}
 use Rattle.listed.proofs.send_events.Goals as goal
 
@@ -15,13 +14,13 @@ pub begin-s-requires : goal.begin-s-requires
 begin-s-requires c =
     c.requires.1.few
 
-pub send_event-first-requires : goal.send_event-first-requires
-send_event-first-requires c =
+pub send_event-requires : goal.send_event-requires
+send_event-requires c =
     (omega (arith, c.requires.0), c.requires.1.few, c.begin-s.ensures.1)
 
 pub send_rest-rest-requires : goal.send_rest-rest-requires
 send_rest-rest-requires c =
-    (omega (arith, c.send_event-first.ensures.1, c.requires.0), c.requires.1.few, c.begin-s.ensures.1)
+    (omega (arith, c.send_event.ensures.1, c.requires.0), c.requires.1.few, c.begin-s.ensures.1)
 
 pub overflow_add-result : goal.overflow_add-result
 overflow_add-result c =
@@ -38,7 +37,7 @@ unfolding flat_map
 returns-then-ticks-eq0 c =
     let p = c.args.plan.now in
     let zero = events_none (plan_lines p) (sym (ticks_end p _ _ c.requires.1 c.plan_end-ticks.ensures) ∙ c.if-ticks-eq0.true) in
-    (sends_as (sym (ap (flat_map (event_words (word p 0))) zero)) (none _ _ _ _), sym (ap length zero), omega arith)
+    (sends_as (sym (ap (flat_map (event_words (word p 0))) zero)) (sends_none _), sym (ap length zero), omega arith)
 
 pub returns : goal.returns
 returns c =
@@ -48,7 +47,7 @@ returns c =
     let same = lines_start p _ _ ready c.begin-s.ensures.0 in
     let some = c.if-ticks-eq0.false in
     let q = c.send_rest-rest.ensures in (
-      whole_sent p same ticks some c.send_event-first.ensures.0 q.0,
+      whole_sent p same ticks some c.send_event.ensures.0 q.0,
       whole-counted same ticks some q.1,
       omega (arith, q.2, ready.ticks, ticks),
     )

@@ -1,15 +1,10 @@
--- The invariant of `listing::list_alternatives`: the items of the alternatives before i are listed, those from p on are left.
+-- The invariant of `listing::list_alternatives`: the items of the alternatives before i are listed, the others are left.
 -- Assumes nothing.
-use mathlib.Core.Path.{◌≡◌}
-use Prim.Native.Nat.{◌+◌, ◌*◌, ◌-◌, ◌≤◌}
+use Prim.Native.Nat.{◌+◌, ◌*◌, ◌-◌}
 use Rattle.listing.proofs.Going.{Going}
 use Rattle.listing.specs.Items.{up_to, gather, items_at}
 use Rattle.listing.proofs.list_alternatives.Given as goal
 
 abbrev pub invariant-loop-i : goal.invariant-loop-i
-invariant-loop-i l = (l.i ≤ l.n)
-    × ((l.p ≡ l.at + 4 * l.i)
-    × Going l.initial.out l.from (up_to l.limit l.from (gather (items_at l.s) 4 l.n l.at)) l.out l.m (up_to l.limit l.m (gather (items_at l.s) 4 (l.n - l.i) l.p)))
-
-abbrev pub decreases-loop-i : goal.decreases-loop-i
-decreases-loop-i l = l.n - l.i
+invariant-loop-i l = Going l.initial.out l.from (up_to l.limit l.from (gather (items_at l.s) 4 l.n l.at)) l.out l.m
+    (up_to l.limit l.m (gather (items_at l.s) 4 (l.n - l.i) (l.at + 4 * l.i)))

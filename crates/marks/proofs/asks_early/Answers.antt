@@ -1,20 +1,16 @@
+-- `marks::asks_early` meets its contract: what one ask tells, all of them tell. Assumes nothing.
+use mathlib.Core.Path.{refl}
+use Prim.Native.Nat.{◌-◌}
 use native.Mathlib.Omega.{arith}
-use Rattle.marks.proofs.Sides.{told-nobody, rests_all, rests_next, told_here}
+use Rattle.marks.proofs.Sides.{rests_first, rests_after, told_here}
 use Rattle.marks.proofs.asks_early.Goals as goal
 
-pub loop-asks-init : goal.loop-asks-init
-loop-asks-init c = (omega arith, omega arith, rests_all _ _)
+pub loop-i-init : goal.loop-i-init
+loop-i-init c = rests_first _ _ _
 
-pub loop-asks-preserved : goal.loop-asks-preserved
-loop-asks-preserved c = (
-  omega arith,
-  omega (arith, c.fifth_width-width.ensures.1),
-  rests_next _ _ _ _ _ c.loop-asks-test.true c.fifth_width-width.ensures.0 c.loop-asks.invariant.2,
-)
+pub loop-i-preserved : goal.loop-i-preserved
+loop-i-preserved c = rests_after _ _ _ _ c.loop-i-test.true c.fifth_width-width.ensures.0 c.loop-i.invariant
 
-pub returns : goal.returns
-returns c = told-nobody _ _ _
-
-pub returns-in-Name : goal.returns-in-Name
-returns-in-Name c =
-    told_here _ _ _ _ _ _ _ _ _ c.in-Name.is c.loop-asks-test.true c.fifth_width-width.ensures.0 c.loop-asks.invariant.2 c.ask_early-s.ensures
+pub returns-then-is_some : goal.returns-then-is_some
+returns-then-is_some c =
+    told_here _ _ _ _ (c.args.a.asks - c.loop-i.i) _ _ _ _ refl (λ z. omega arith) c.fifth_width-width.ensures.0 c.loop-i.invariant c.ask_early-told.ensures

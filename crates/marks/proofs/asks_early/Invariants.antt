@@ -1,10 +1,7 @@
--- `marks::asks_early` meets its contract. The loop's invariant: the asks left hold if all do. The measure is the asks left. Assumes nothing.
-use Prim.Native.Nat.{◌+◌, ◌*◌, ◌^◌, ◌<◌, ◌≤◌}
+-- `marks::asks_early` meets its contract. The loop's invariant: the asks from number i on hold if all do. Assumes nothing.
+use Prim.Native.Nat.{◌+◌, ◌-◌, ◌*◌}
 use Rattle.marks.proofs.Sides.{Rests}
 use Rattle.marks.proofs.asks_early.Given as goal
 
-abbrev pub invariant-loop-asks : goal.invariant-loop-asks
-invariant-loop-asks l = (l.asks ≤ l.a.asks) × (l.place + 8 * l.asks < 2 ^ 60) × Rests l.b l.a l.asks l.place
-
-abbrev pub decreases-loop-asks : goal.decreases-loop-asks
-decreases-loop-asks l = l.asks
+abbrev pub invariant-loop-i : goal.invariant-loop-i
+invariant-loop-i l = Rests l.b l.a (l.a.asks - l.i) (l.a.ask + l.i * l.width)

@@ -1,12 +1,6 @@
 -- `marks::bounds_early` meets its contract: below lower the right side is told, above upper the left one. Assumes nothing.
-use Rattle.marks.proofs.Sides.{told-nobody, told_right, told-left, few_kinds}
+use Rattle.marks.proofs.Sides.{told_right, told-left, few_kinds}
 use Rattle.marks.proofs.bounds_early.Goals as goal
-
-pub returns-then-i-j : goal.returns-then-i-j
-returns-then-i-j c = told-nobody _ _ _
-
-pub returns-then-in_bounds : goal.returns-then-in_bounds
-returns-then-in_bounds c = told-nobody _ _ _
 
 pub returns-then-in_bounds-2 : goal.returns-then-in_bounds-2
 returns-then-in_bounds-2 c =

@@ -1,25 +1,13 @@
+-- `marks::seek` meets its contract: a token of another value is passed over, and past the last there is none. Assumes nothing.
 use native.Mathlib.Omega.{arith}
-use Rattle.lines.proofs.Width.{width_few}
-use Rattle.marks.proofs.Lines.{skipped_none, skipped_next, sought_here, sought_none}
+use Rattle.marks.proofs.Lines.{skipped_on, sought_none}
 use Rattle.marks.proofs.seek.Goals as goal
 
-pub loop-left-init : goal.loop-left-init
-loop-left-init c =
-    let h = c.requires.2 in
-    (omega arith, omega arith, skipped_none _ _, h, omega (arith, h, (width_few c.args.p.now).1))
-
-pub returns-then-word_at-w : goal.returns-then-word_at-w
-returns-then-word_at-w c =
-    sought_here _ _ _ _ _ _ c.word_at.ensures c.loop-left.invariant.2
-
-pub loop-left-preserved : goal.loop-left-preserved
-loop-left-preserved c = (
+pub loop-i-preserved : goal.loop-i-preserved
+loop-i-preserved c = (
   omega arith,
-  omega arith,
-  skipped_next _ _ _ _ _ _ _ c.loop-left.invariant.3 c.loop-left-test.true c.word_at.ensures c.word_at-in-loop-left.ensures c.if-word_at-w.false (omega arith) c.loop-left.invariant.2,
-  c.loop-left.invariant.3,
-  c.loop-left.invariant.4,
+  skipped_on _ _ _ _ c.loop-i.i _ _ _ c.requires.2 c.loop-i-test.true c.word_at.ensures c.word_at-in-loop-i.ensures c.if-word_at-w.false (omega arith) c.loop-i.invariant.1,
 )
 
 pub returns : goal.returns
-returns c = sought_none _ _ _ _ _ c.loop-left-test.false c.loop-left.invariant.2
+returns c = sought_none _ _ _ _ _ (omega arith) c.loop-i.invariant.1

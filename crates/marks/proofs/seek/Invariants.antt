@@ -1,13 +1,7 @@
--- `marks::seek` meets its contract. The loop's invariant: only tokens of other values were passed over. The measure is the tokens left.
--- Assumes nothing.
-use mathlib.Core.Path.{◌≡◌}
-use Prim.Native.Nat.{◌+◌, ◌*◌, ◌^◌, ◌≤◌, ◌<◌}
-use Rattle.lines.specs.Lines.{token_width}
+-- `marks::seek` meets its contract. The loop's invariant: only tokens of other values were passed over. Assumes nothing.
+use Prim.Native.Nat.{◌+◌, ◌-◌, ◌*◌, ◌^◌, ◌<◌}
 use Rattle.marks.specs.Marked.{Skipped}
 use Rattle.marks.proofs.seek.Given as goal
 
-abbrev pub invariant-loop-left : goal.invariant-loop-left
-invariant-loop-left l = (l.at + 3 * l.left < 2 ^ 60) × (l.from + 4294967296 * l.left < 2 ^ 64) × Skipped l.p l.w l.left l.at l.from × (l.w.width ≡ token_width l.p) × (l.w.width ≤ 3)
-
-abbrev pub decreases-loop-left : goal.decreases-loop-left
-decreases-loop-left l = l.left
+abbrev pub invariant-loop-i : goal.invariant-loop-i
+invariant-loop-i l = (l.start + 4294967296 * (l.w.count - l.i) < 2 ^ 64) × Skipped l.p l.w (l.w.count - l.i) (l.w.place + l.i * l.w.width) l.start

@@ -1,11 +1,12 @@
--- `moments::later` meets its contract. The loop's invariant: the lines before v are m ticks later. Assumes nothing.
-use Prim.Native.Nat.{◌≤◌, ◌-◌}
+-- `moments::later` meets its contract. The loop's invariant: the lines before v are m ticks later, and the others as they were. Assumes nothing.
+use mathlib.Core.Path.{◌≡◌}
+use Prim.Native.Nat.{ℕ, ◌≤◌}
+use lib.ListN.{get_or}
 use Rattle.event_list.specs.Events.{later}
+use Rattle.moments.specs.State.{nothing}
 use Rattle.moments.proofs.Laws.{Upto, changed}
 use Rattle.moments.proofs.later.Given as goal
 
 abbrev pub invariant-loop-v : goal.invariant-loop-v
-invariant-loop-v l = (l.v ≤ l.n) × Upto l.plan l.t (changed l.plan l.s (later l.m)) l.v
-
-abbrev pub decreases-loop-v : goal.decreases-loop-v
-decreases-loop-v l = l.n - l.v
+invariant-loop-v l =
+    Upto l.plan l.s (changed l.plan l.fn.s (later l.m)) l.v × ((k : ℕ) → l.v ≤ k → get_or l.s k nothing ≡ get_or l.fn.s k nothing)

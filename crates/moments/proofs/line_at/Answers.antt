@@ -6,6 +6,6 @@ use Rattle.moments.proofs.line_at.Goals as goal
 pub returns : goal.returns
 returns c =
     let place = c.line_place-place.ensures in (
-      line-whole _ _ _ c.word_at-tokens.ensures place.0 c.word_at-run.ensures,
+      line-whole _ _ _ c.word_at-left.ensures place.0 c.word_at-run.ensures,
       record { place = omega (arith, place.1) },
     )

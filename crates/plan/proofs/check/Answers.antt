@@ -1,23 +1,27 @@
 -- `plan::check` meets its contract, stage by stage: the tokens are tested where the lines have no fault, and the lines' ends where the tokens have none. Assumes nothing.
-use mathlib.Core.Path.{◌∙◌}
-use Rattle.plan.proofs.Stages.{lines-first, tokens_within, tokens_next, ends_last}
+use mathlib.Core.Path.{sym, ◌∙◌}
+use Rattle.std.proofs.lemmas.Result.{err_from_is_err_and}
+use Rattle.answers.proofs.Stages.{or_refused, or_done, done_number}
+use Rattle.lines.proofs.Stages.{lines_inside}
+use Rattle.plan.proofs.Stages.{by_lines}
 use Rattle.plan.proofs.check.Goals as goal
 
-pub returns-then-numbers_of-ne0 : goal.returns-then-numbers_of-ne0
-returns-then-numbers_of-ne0 c =
-    lines-first _ _ _ _ c.check-first.ensures c.numbers_of.ensures c.if-numbers_of-ne0.true
+pub returns-in_err-check : goal.returns-in_err-check
+returns-in_err-check c =
+    let p = err_from_is_err_and c.from_residual.result c.from_residual.ensures.1 in
+    rw (p.1, p.2) (or_refused _ _ _ c.in_err-check.ensures ∙ sym (by_lines _ _))
 
-pub check_tokens-second-requires : goal.check_tokens-second-requires
-check_tokens-second-requires c =
-    tokens_within _ _ _ _ c.check-first.ensures c.numbers_of.ensures c.if-numbers_of-ne0.false
+pub check_tokens-requires : goal.check_tokens-requires
+check_tokens-requires c = lines_inside _ _ (done_number _ _ c.in_ok-check.ensures)
 
-pub returns-then-numbers_of-ne0-2 : goal.returns-then-numbers_of-ne0-2
-returns-then-numbers_of-ne0-2 c =
-    tokens_next _ _ _ _ c.check-first.ensures c.numbers_of.ensures c.if-numbers_of-ne0.false _ _ c.check_tokens-second.ensures c.numbers_of-2.ensures
-    c.if-numbers_of-ne0-2.true
+pub returns-in_err-check_tokens : goal.returns-in_err-check_tokens
+returns-in_err-check_tokens c =
+    let p = err_from_is_err_and c.from_residual-in_err-check_tokens.result c.from_residual-in_err-check_tokens.ensures.1 in
+    rw (p.1, p.2) (or_refused _ _ _ c.in_err-check_tokens.ensures ∙ sym (or_done _ _ _ c.in_ok-check.ensures) ∙ sym (by_lines _ _))
 
 pub returns : goal.returns
 returns c =
     c.check_ends.ensures
-    ∙ ends_last _ _ _ _ c.check-first.ensures c.numbers_of.ensures c.if-numbers_of-ne0.false _ _ c.check_tokens-second.ensures c.numbers_of-2.ensures
-    c.if-numbers_of-ne0-2.false
+    ∙ sym (or_done _ _ _ c.in_ok-check_tokens.ensures)
+    ∙ sym (or_done _ _ _ c.in_ok-check.ensures)
+    ∙ sym (by_lines _ _)

@@ -8,21 +8,19 @@ use Rattle.layout.proofs.Bounds.{three_wide, six_wide}
 use Rattle.records.proofs.fifth_word.Goals as goal
 
 pub constraint_word-requires : goal.constraint_word-requires
-unfolding wrong_word fifth_tests fifth_tests_of
 constraint_word-requires c =
-    omega (arith, three_wide c.if-e-eq2.true)
+    omega (arith, three_wide c.if-tables-eq2.true)
 
 pub atom_word-requires : goal.atom_word-requires
-unfolding wrong_word fifth_tests fifth_tests_of
 atom_word-requires c =
-    omega (arith, six_wide c.if-e-eq2.false)
+    omega (arith, six_wide c.if-tables-eq2.false)
 
-pub returns-then-e-eq2 : goal.returns-then-e-eq2
+pub returns-then-tables-eq2 : goal.returns-then-tables-eq2
 unfolding wrong_word fifth_tests fifth_tests_of
-returns-then-e-eq2 c =
-    (simp (eq-eqb _ _ c.if-e-eq2.true, add-zero) (cc), search rules)
+returns-then-tables-eq2 c =
+    (simp (eq-eqb _ _ c.if-tables-eq2.true, add-zero) (cc), search rules)
 
-pub returns-else-e-eq2 : goal.returns-else-e-eq2
+pub returns-else-tables-eq2 : goal.returns-else-tables-eq2
 unfolding wrong_word fifth_tests fifth_tests_of
-returns-else-e-eq2 c =
-    (simp (ne_eqb _ _ c.if-e-eq2.false, add-zero) (cc), search rules)
+returns-else-tables-eq2 c =
+    (simp (ne_eqb _ _ c.if-tables-eq2.false, add-zero) (cc), search rules)

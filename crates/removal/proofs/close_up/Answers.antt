@@ -5,7 +5,7 @@ use Rattle.removal.proofs.Outcome.{few_rules, left_listed, left_fits, left_climb
 use Rattle.removal.proofs.close_up.Goals as goal
 
 pub list_left-m-requires : goal.list_left-m-requires
-list_left-m-requires c = (few_rules c.requires, c.requires.rises)
+list_left-m-requires c = few_rules c.requires
 
 pub slice_bounds-left-end : goal.slice_bounds-left-end
 slice_bounds-left-end c =

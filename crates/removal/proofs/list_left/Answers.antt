@@ -1,14 +1,20 @@
+-- `removal::list_left` meets its contract, by the invariant in Invariants.antt. Assumes nothing.
+use mathlib.Core.Path.{refl}
 use native.Mathlib.Omega.{arith}
-use borrow.Author.Rules.{rules}
-use Rattle.listing.proofs.Going.{done}
-use Rattle.removal.proofs.Rising.{pass_start, pass_rule, left-none}
+use Rattle.listing.proofs.Going.{go, done, put_one}
+use Rattle.removal.proofs.Rising.{listed_left, kept_left, left-none}
 use Rattle.removal.proofs.list_left.Goals as goal
-
-pub loop-i-init : goal.loop-i-init
-loop-i-init c = (search rules, pass_start _ _ _ c.requires.1)
+use Rattle.removal.proofs.list_left.Goals.{then-not-contains, else-not-contains}
 
 pub loop-i-preserved : goal.loop-i-preserved
-loop-i-preserved c = (search rules, pass_rule (omega arith) c.loop-i.invariant.1 c.put_unless-at.ensures)
+loop-i-preserved c =
+    let g = c.loop-i.invariant.1 in
+    let l = c.loop-i-test.true in
+    let e = c.contains.ensures.value in
+    elim c.if-not-contains.branch [
+      | then-not-contains w ↦ rw (w.left-is, w.at-is) (omega arith, go g (kept_left _ _ _ l _ e w.if-not-contains.true) (put_one _ _ _ refl))
+      | else-not-contains w ↦ rw (w.left-is, w.at-is) (omega arith, rw (← listed_left _ _ _ l _ e w.if-not-contains.false) g)
+    ]
 
 pub returns : goal.returns
-returns c = done c.loop-i.invariant.1.going (left-none _ _ _ (omega arith))
+returns c = done c.loop-i.invariant.1 (left-none _ _ _ (omega arith))

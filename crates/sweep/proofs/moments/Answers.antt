@@ -1,3 +1,4 @@
+-- `sweep::moments` meets its contract: its loop keeps the invariant, and leaves what is promised. Assumes nothing.
 use mathlib.Core.Path.{refl}
 use native.Mathlib.Omega.{arith}
 use lib.ListN.{length-set}

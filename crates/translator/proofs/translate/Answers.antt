@@ -1,41 +1,20 @@
 -- `translator::translate` meets its contract: the sheet's own fault, a rule with too many alternatives, or what `finish` answers.
 -- Assumes nothing.
-use mathlib.Core.Path.{sym}
-use native.Mathlib.Omega.{arith}
 use borrow.Author.Rules.{rules}
-use lib.Seq.{length-take-le}
+use Rattle.std.proofs.lemmas.Result.{err_from_is_err_and}
 use Rattle.translator.proofs.Outcome.{bad_by, good_by, fitting, listed, too_many_lem}
 use Rattle.translator.proofs.translate.Goals as goal
 
-pub returns-then-fault-ne0 : goal.returns-then-fault-ne0
-returns-then-fault-ne0 c = bad_by _ _ _ _ c.check-r.ensures c.numbers_of-fault.ensures c.if-fault-ne0.true
+pub returns-in_err-check : goal.returns-in_err-check
+returns-in_err-check c =
+    let p = err_from_is_err_and c.from_residual.result c.from_residual.ensures.1 in
+    rw (p.1, p.2) (bad_by _ _ _ c.in_err-check.ensures)
 
-pub list_rules-listed-requires : goal.list_rules-listed-requires
-list_rules-listed-requires c =
-    (fitting (good_by _ _ _ c.check-r.ensures c.numbers_of-fault.ensures c.if-fault-ne0.false), (search rules, search rules))
-
-pub overflow_cast-result : goal.overflow_cast-result
-overflow_cast-result c = omega arith
-
-pub returns-then-rule-rules : goal.returns-then-rule-rules
-returns-then-rule-rules c =
-    too_many_lem _ _ (good_by _ _ _ c.check-r.ensures c.numbers_of-fault.ensures c.if-fault-ne0.false) _ c.list_rules-listed.ensures.found (omega arith)
-
-pub slice_bounds-items-end : goal.slice_bounds-items-end
-slice_bounds-items-end c = (c.list_rules-listed.ensures.all (omega arith)).within
-
-pub slice_bounds-finish-end : goal.slice_bounds-finish-end
-slice_bounds-finish-end c = sym (length-take-le _ _ (c.list_rules-listed.ensures.all (omega arith)).within)
-
-pub slice_bounds-numbers-end : goal.slice_bounds-numbers-end
-slice_bounds-numbers-end c = omega (arith, (c.list_rules-listed.ensures.all (omega arith)).enough)
-
-pub slice_bounds-finish-end-2 : goal.slice_bounds-finish-end-2
-slice_bounds-finish-end-2 c = sym (length-take-le _ _ (omega (arith, (c.list_rules-listed.ensures.all (omega arith)).enough)))
+pub list_rules-requires : goal.list_rules-requires
+list_rules-requires c = (fitting (good_by _ _ c.in_ok-check.ensures), (search rules, search rules))
 
 pub finish-requires : goal.finish-requires
-finish-requires c =
-    listed _ (good_by _ _ _ c.check-r.ensures c.numbers_of-fault.ensures c.if-fault-ne0.false) c.list_rules-listed.ensures c.number_at-rules.ensures.0 (omega arith)
+finish-requires c = listed _ (good_by _ _ c.in_ok-check.ensures) c.in-Ok.ensures c.number_at-rules.ensures.0
 
-pub returns : goal.returns
-returns c = c.finish.ensures
+pub returns-in-Err : goal.returns-in-Err
+returns-in-Err c = too_many_lem _ _ (good_by _ _ c.in_ok-check.ensures) _ c.in-Err.ensures.0 c.in-Err.ensures.1

@@ -1,12 +1,13 @@
+-- `verdict::survey_line` meets its contract: token by token, those that are left are one fewer. Assumes nothing.
 use native.Mathlib.Omega.{arith}
 use mathlib.Core.Path.{◌≡◌, refl, ap}
 use mathlib.Core.Bool.{not}
 use Rattle.lines.specs.declared.Token.{Token}
 use Rattle.marks.specs.Marked.{Later}
-use Rattle.matching.proofs.Carrying.{carried_fresh, carried_later}
+use Rattle.matching.proofs.Fresh.{carried_fresh, carried_later}
 use Rattle.verdict.proofs.Steps.{line-start, line_other, line-met, line-unmet, line-end}
 use Rattle.verdict.proofs.survey_line.Goals as goal
-use Rattle.verdict.proofs.survey_line.Goals.{then-word_at-value+else-not-met, else-word_at-value, else-loop-token-test, then-loop-token-test+then-word_at-value+then-not-met}
+use Rattle.verdict.proofs.survey_line.Goals.{then-word_at-value+else-not-met, else-word_at-value}
 
 -- a token that was made is later, or earlier, as its times are
 later-as : {t u v : Token} → u ≡ v → Later t v → Later t u
@@ -14,10 +15,6 @@ later-as h l = rw h l
 
 later-from : {t u v : Token} → t ≡ v → Later v u → Later t u
 later-from h l = rw h l
-
-pub overflow_add-at-in-loop-token : goal.overflow_add-at-in-loop-token
-overflow_add-at-in-loop-token c =
-    let l = c.loop-token.invariant in omega (arith, l.1.near, l.4, c.loop-token-test.true)
 
 pub loop-token-init : goal.loop-token-init
 loop-token-init c =
@@ -35,6 +32,12 @@ met-requires c =
       c.plan_end-last.ensures,
       carried_later _ _ _ _ _ _ _ _ (later-as t (record { start = omega arith; end = omega arith })) c.loop-token.invariant.2,
     )
+
+pub returns-then-not-met : goal.returns-then-not-met
+returns-then-not-met c =
+    let l = c.loop-token.invariant in
+    line-unmet l.1 l.0 _ _ _ c.loop-token-test.true c.word_at.ensures c.word_at-in-loop-token.ensures l.3 _ _ c.if-word_at-value.true c.token_at-t.ensures
+    c.met.ensures.0 (ap not c.if-not-met.true)
 
 pub loop-token-preserved : goal.loop-token-preserved
 loop-token-preserved c =
@@ -58,11 +61,4 @@ loop-token-preserved c =
     )
 
 pub returns : goal.returns
-returns c =
-    let l = c.loop-token.invariant in
-    elim c.loop-token-test.branch [
-      | else-loop-token-test w ↦ line-end l.1 w.loop-token-test.false
-      | then-loop-token-test+then-word_at-value+then-not-met w ↦
-          line-unmet l.1 l.0 _ _ _ w.loop-token-test.true w.word_at.ensures w.word_at-in-loop-token.ensures l.3 _ _ w.if-word_at-value.true w.token_at-t.ensures
-          w.met.ensures.0 (ap not w.if-not-met.true)
-    ]
+returns c = line-end c.loop-token.invariant.1 c.loop-token-test.false

@@ -1,7 +1,7 @@
--- `verdict::survey_line` meets its contract. The loop's invariant: what the line comes to is what its passed tokens and the rest come to,
--- and no sum wraps. The measure is the number of tokens left. Assumes nothing.
+-- The invariant of `verdict::survey_line`: what the line comes to is what its passed tokens and the rest come to, and no sum wraps.
+-- Assumes nothing.
 use mathlib.Core.Path.{◌≡◌}
-use Prim.Native.Nat.{ℕ, ◌-◌, ◌+◌, ◌*◌, ◌≤◌}
+use Prim.Native.Nat.{ℕ, ◌+◌, ◌*◌, ◌≤◌}
 use Rattle.layout.specs.Layout.{offset}
 use Rattle.lines.specs.declared.Token.{Token}
 use Rattle.lines.specs.Lines.{token, token_width}
@@ -17,6 +17,3 @@ abbrev pub invariant-loop-token : goal.invariant-loop-token
 invariant-loop-token l =
     RuleWords l.b l.place l.value l.first l.n × OnLine l.e l.b l.p l.place l.count l.at l.start l.token l.seen × Carried l.e l.b l.p (from l.start) l.n (offset l.b 3 + 4 * l.first) l.kept
     × (l.width ≡ token_width l.p) × (l.width ≤ 3)
-
-abbrev pub decreases-loop-token : goal.decreases-loop-token
-decreases-loop-token l = l.count - l.token

@@ -1,10 +1,10 @@
 -- `words::in_set` meets its contract: a word has no bit from 32 on. Assumes nothing.
-use mathlib.Core.Path.{◌≡◌}
+use mathlib.Core.Path.{◌≡◌, refl, ◌∙◌}
 use Prim.Native.Nat.{ℕ, ◌/◌, ◌^◌, ◌≤◌, ◌<◌}
 use native.Mathlib.Nat.{pow-le-pow_right, div-eq_of_lt}
 use native.Mathlib.Omega.{arith}
 use mathlib.Core.Bool.{false}
-use borrow.Author.Rules.{rules}
+use borrow.Author.Tests.{le-ltb}
 use lib.Dec.{lit<}
 use Rattle.words.specs.Words.{in_set}
 use Rattle.words.proofs.in_set.Goals as goal
@@ -16,17 +16,11 @@ none_above s k h l =
     let gone : s / 2 ^ k ≡ 0 = div-eq_of_lt (omega arith) in
     rw gone
 
-pub overflow_shr-result : goal.overflow_shr-result
-unfolding in_set
-overflow_shr-result c =
-    search rules
-
 pub returns-then-k-lt32 : goal.returns-then-k-lt32
 unfolding in_set
 returns-then-k-lt32 c =
-    search rules
+    refl
 
-pub returns : goal.returns
-unfolding in_set
-returns c =
-    none_above _ _ (omega arith) c.if-k-lt32.false
+pub returns-else-k-lt32 : goal.returns-else-k-lt32
+returns-else-k-lt32 c =
+    le-ltb _ _ c.if-k-lt32.false ∙ none_above _ _ (omega arith) c.if-k-lt32.false

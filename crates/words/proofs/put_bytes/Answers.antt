@@ -1,16 +1,9 @@
--- `words::put_bytes` meets its contract: four stores in a row are `puts`, and none changes the length. Assumes nothing.
+-- `words::put_bytes` meets its contract: the bytes of a word are the library's, and a part that is written whole is `puts`. Assumes nothing.
+use mathlib.Core.Path.{refl}
 use native.Mathlib.Omega.{arith}
-use lib.ListN.{length-set}
+use Rattle.words.proofs.Write.{wrote_part}
 use Rattle.words.proofs.put_bytes.Goals as goal
 
-pub bounds-out-second : goal.bounds-out-second
-bounds-out-second c =
-    simp length-set (omega arith)
-
-pub bounds-out-third : goal.bounds-out-third
-bounds-out-third c =
-    simp length-set (omega arith)
-
-pub bounds-out-fourth : goal.bounds-out-fourth
-bounds-out-fourth c =
-    simp length-set (omega arith)
+pub returns : goal.returns
+returns c =
+    rw (c.copy_from_slice.ensures.after, c.to_le_bytes.ensures) (wrote_part _ _ _ _ refl (omega arith))

@@ -1,12 +1,9 @@
--- `writing::count_digits` meets its contract. The invariant: n and what the digits that are left become are the whole, and n is at most three
--- for each digit passed. Assumes nothing.
+-- The invariant of `writing::count_digits`: n and what the digits that are left become are the whole, and n is at most three for each digit
+-- passed. Assumes nothing.
 use mathlib.Core.Path.{◌≡◌}
 use Prim.Native.Nat.{◌+◌, ◌*◌, ◌-◌, ◌≤◌}
 use Rattle.writing.specs.Left.{count_from}
 use Rattle.writing.proofs.count_digits.Given as goal
 
-abbrev pub invariant-loop-i : goal.invariant-loop-i
-invariant-loop-i l = (l.i ≤ l.k) × ((l.n ≤ 3 * l.i) × (l.n + count_from (l.k - l.i) l.left ≡ count_from l.k l.code))
-
-abbrev pub decreases-loop-i : goal.decreases-loop-i
-decreases-loop-i l = l.k - l.i
+abbrev pub invariant-loop : goal.invariant-loop
+invariant-loop l = (l.n ≤ 3 * l.counter) × (l.n + count_from (l.k - l.counter) l.left ≡ count_from l.k l.code)

@@ -1,25 +1,23 @@
+-- `writing::put_names` meets its contract: item by item, what is left is one run shorter. Assumes nothing.
+use mathlib.Core.Path.{refl}
 use Prim.Native.Nat.{◌<◌}
 use native.Mathlib.Omega.{arith}
-use borrow.Author.Rules.{rules}
 use lib.ListN.{length}
 use Rattle.words.proofs.Write.{has_first}
-use Rattle.listing.proofs.Going.{begin, go, done, room}
 use Rattle.writing.proofs.Left.{names_more, names-none}
+use Rattle.writing.proofs.Writing.{to_start, to_go, to_done, to_room}
 use Rattle.writing.proofs.put_names.Goals as goal
 
-pub loop-i-init : goal.loop-i-init
-loop-i-init c = (search rules, begin _ _ _)
+pub loop-item-init : goal.loop-item-init
+loop-item-init c = to_start _ refl
 
-pub put_item_names-at-requires : goal.put_item_names-at-requires
-put_item_names-at-requires c =
-    let i : c.loop-i.i < length c.args.list.now = omega arith in
-    has_first _ _ (rw (names_more _ _ _ i) at (room c.requires c.loop-i.invariant.1))
+pub put_item_names-requires : goal.put_item_names-requires
+put_item_names-requires c =
+    let i : c.loop-item.item-index < length c.args.list.now = omega arith in
+    has_first _ _ (rw (names_more _ _ _ i) at (to_room c.requires c.loop-item.invariant))
 
-pub loop-i-preserved : goal.loop-i-preserved
-loop-i-preserved c = (search rules, go c.loop-i.invariant.1 (names_more _ _ _ (omega arith)) c.put_item_names-at.ensures)
-
-pub shape_of-out : goal.shape_of-out
-shape_of-out c = c.loop-i.invariant.1.long
+pub loop-item-preserved : goal.loop-item-preserved
+loop-item-preserved c = to_go c.loop-item.invariant (names_more _ _ _ (omega arith)) c.put_item_names.ensures
 
 pub returns : goal.returns
-returns c = done c.loop-i.invariant.1 (names-none _ _ _ (omega arith))
+returns c = to_done c.loop-item.invariant (names-none _ _ _ (omega arith))

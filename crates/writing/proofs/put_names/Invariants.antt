@@ -1,13 +1,7 @@
--- `writing::put_names` meets its contract. The invariant: the names of the items before i are written, the others are left.
--- Assumes nothing.
-use Prim.Native.Nat.{◌-◌, ◌≤◌}
-use lib.ListN.{length}
-use Rattle.listing.proofs.Going.{Going}
+-- The invariant of `writing::put_names`: the names of the items before this one are written, the others are left. Assumes nothing.
+use Rattle.writing.proofs.Writing.{GoingTo}
 use Rattle.writing.specs.Left.{names_left}
 use Rattle.writing.proofs.put_names.Given as goal
 
-abbrev pub invariant-loop-i : goal.invariant-loop-i
-invariant-loop-i l = (l.i ≤ length l.list) × Going l.initial.out l.to (names_left l.s l.list 0) l.out l.at (names_left l.s l.list l.i)
-
-abbrev pub decreases-loop-i : goal.decreases-loop-i
-decreases-loop-i l = length l.list - l.i
+abbrev pub invariant-loop-item : goal.invariant-loop-item
+invariant-loop-item l = GoingTo l.fn.w (names_left l.s l.list 0) l.w (names_left l.s l.list l.item-index)

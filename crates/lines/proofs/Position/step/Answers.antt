@@ -18,12 +18,12 @@ returns-then-plan-at c =
     let a = c.args in
     no_words a.plan.now a.self _ _ (cc) (cc) c.if-plan-at.true
 
-pub returns-in-Past : goal.returns-in-Past
-returns-in-Past c =
+pub returns-in-None : goal.returns-in-None
+returns-in-None c =
     let a = c.args in
     no_time a.plan.now a.self (cc)
 
-pub returns-in-At : goal.returns-in-At
-returns-in-At c =
+pub returns-in-Some : goal.returns-in-Some
+returns-in-Some c =
     let a = c.args in
     next-token a.plan.now a.self _ _ _ _ _ (cc) (cc) (omega arith) (omega arith) c.if-plan-at.false (cc) (cc) (cc)

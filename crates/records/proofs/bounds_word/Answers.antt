@@ -1,9 +1,0 @@
--- `records::bounds_word` meets its contract: the tests of the two bounds, in turn. Assumes nothing.
-use borrow.Author.Rules.{rules}
-use Rattle.words.specs.Least.{first}
-use Rattle.records.proofs.bounds_word.Goals as goal
-
-pub returns : goal.returns
-unfolding first
-returns c =
-    (cc, search rules)

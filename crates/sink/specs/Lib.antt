@@ -1,0 +1,2 @@
+-- The definitions that the contracts of `sink` cite.
+pub mod Sinks

@@ -1,0 +1,9 @@
+-- `words::put` meets its contract: a part that is written whole is `puts`. Assumes nothing.
+use mathlib.Core.Path.{refl}
+use native.Mathlib.Omega.{arith}
+use Rattle.words.proofs.Write.{wrote_part}
+use Rattle.words.proofs.put.Goals as goal
+
+pub returns : goal.returns
+returns c =
+    rw c.copy_from_slice.ensures.after (wrote_part _ _ _ _ refl (omega arith))
