@@ -144,7 +144,9 @@ fn atom_holds(atom: Record, c: &[u64; 16]) -> bool
     bounds_hold(atom, c)
 }
 
-// Whether a constraint holds: its two tokens stand in a relation of its set.
+// Whether a constraint holds: its two tokens stand in a relation of its set. Taken into its callers, since a call for each constraint of a sheet
+// showed in the direct judge's time.
+#[inline(always)]
 pub fn constraint_holds(constraint: Record, c: &[u64; 16]) -> bool
     ensures { result ≡ constraint_holds c.now (constraint_at constraint.entry.words.now constraint.entry.place) }
 {

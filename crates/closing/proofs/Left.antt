@@ -62,6 +62,10 @@ module _ (b : List ℕ) where
       let at : k + i + 1 ≡ k + (i + 1) = omega arith in
       rw (← at) (words_more (k + i) n i l)
 
+  pub words_long : (k n : ℕ) → length (words_at b k n) ≡ n
+  unfolding words_at
+  words_long k n = length_run (word b) 1 n k
+
   pub words-none : (k n i : ℕ) → n ≤ i → words_at b k (n - i) ≡ []
   unfolding words_at
   words-none k n i l = run_none (word b) 1 n i k l

@@ -2,7 +2,7 @@
 #![tactic(auto)]
 
 ghost use Rattle.std.specs.Prelude.{◌≡◌, ◌+◌, ◌*◌, ◌^◌, ◌≤◌, ◌<◌, map, length};
-ghost use Rattle.words.specs.Write.{Wrote};
+ghost use Rattle.words.specs.Write.{Wrote, Has};
 ghost use Rattle.layout.specs.Layout.{offset};
 ghost use Rattle.writing.specs.Writing.{HasRoom, WroteTo};
 ghost use Rattle.closing.specs.Rebuilt.{rebuilt};
@@ -37,14 +37,24 @@ fn list_alternatives(s: &[u32], left: &[u32], w: &mut Writer<'_>)
 
 // ---- the tables
 
-// Copies n words of the book, those from `at` on; past the end they are 0.
+// Copies n words of the book, those from `at` on, to a place, and answers the place behind them; past the end they are 0. The room and the place
+// are its own, since a step of the writer for each word takes longer.
+fn copy_run(s: &[u32], at: usize, n: usize, out: &mut [u32], to: usize) -> usize
+    requires { (at + n < 2 ^ 63) × Has out.old to (words_at s.now at n) }
+    ensures { Wrote out.old out.new to result (words_at s.now at n) }
+{
+    for i in 0..n {
+        out[to + i] = word_at(s, at + i);
+    }
+    to + n
+}
+
+// The same, with a writer.
 fn put_run(s: &[u32], at: usize, n: usize, w: &mut Writer<'_>)
     requires { (at + n < 2 ^ 63) × HasRoom w.old (words_at s.now at n) }
     ensures { WroteTo w.old w.new (words_at s.now at n) }
 {
-    for i in 0..n {
-        w.put(&[word_at(s, at + i)]);
-    }
+    w.at = copy_run(s, at, n, w.words, w.at);
 }
 
 // Word j of alternative number a.

@@ -3,7 +3,7 @@
 use mathlib.Core.Path.{◌≡◌, refl, ap, ◌∙◌}
 use mathlib.Core.Logic.{◌⊎◌, inl, inr, ⊎_elim}
 use mathlib.Core.List.{List, [], ◌∷◌}
-use Prim.Native.Nat.{ℕ, zero, suc, ◌+◌, ◌-◌, ◌*◌, ◌≤◌, ◌<◌}
+use Prim.Native.Nat.{ℕ, zero, suc, ◌+◌, ◌-◌, ◌≤◌, ◌<◌}
 use native.Mathlib.Numerals.{sub-one}
 use native.Mathlib.Omega.{arith}
 use lib.ListN.{length, get_or}
@@ -96,13 +96,12 @@ module _ (p : List ℕ) (w : Tokens) where
         small = omega (arith, s.small, hd);
       })
 
-  -- token i of them is
-  pub skipped_on : (n at i from d v : ℕ) → w.width ≡ token_width p → i < n → d ≡ word p (at + i * w.width + 1) → v ≡ word p (at + i * w.width) → (v ≡ w.value → ⊥)
-      → d < 4294967296 → Skipped p w (n - i) (at + i * w.width) from → Skipped p w (n - (i + 1)) (at + (i + 1) * w.width) (from + d)
-  skipped_on n at i from d v hw h hd hv f l s =
+  -- with i passed over before, the one at the place is
+  pub skipped_on : (n i at from d v : ℕ) → w.width ≡ token_width p → i < n → d ≡ word p (at + 1) → v ≡ word p at → (v ≡ w.value → ⊥)
+      → d < 4294967296 → Skipped p w (n - i) at from → Skipped p w (n - (i + 1)) (at + w.width) (from + d)
+  skipped_on n i at from d v hw h hd hv f l s =
       let left : (n - i) - 1 ≡ n - (i + 1) = omega arith in
-      let place : at + i * w.width + w.width ≡ at + (i + 1) * w.width = omega arith in
-      rw (← left, ← place) (skipped_next (n - i) (at + i * w.width) from d v hw (λ q. omega arith) hd hv f l s)
+      rw (← left) (skipped_next (n - i) at from d v hw (λ q. omega arith) hd hv f l s)
 
   pub sought_here : (left at from d : ℕ) → (left ≡ 0 → ⊥) → d ≡ word p (at + 1) → Skipped p w left at from
       → Here p w (record { left = left; place = at; start = from; end = from + d })

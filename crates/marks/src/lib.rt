@@ -30,14 +30,16 @@ pub struct Seen {
     pub end: u64,
 }
 
-// The first of some tokens that has the value that is asked for, if one has.
+// The first of some tokens that has the value that is asked for, if one has. It stays a call: taken into its callers, its loop reads the plan's
+// place and length from the stack for each token.
+#[inline(never)]
 fn seek(p: &[u32], w: Tokens) -> Option<Seen>
     requires { (w.place + 3 * w.count < 2 ^ 60) × (w.start + 4294967296 * w.count < 2 ^ 64) × (w.width ≡ token_width p.now) }
     ensures { Sought p.now w result }
 {
+    let mut place = w.place;
     let mut start = w.start;
     for i in 0..w.count {
-        let place = w.place + i as usize * w.width;
         let end = start + word_at(p, place + 1) as u64;
         if word_at(p, place) == w.value {
             return Some(Seen {
@@ -48,6 +50,7 @@ fn seek(p: &[u32], w: Tokens) -> Option<Seen>
             });
         }
         start = end;
+        place += w.width;
     }
     None
 }

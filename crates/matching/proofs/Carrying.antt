@@ -1,7 +1,7 @@
 -- Laws of what is kept: marks of an earlier trigger token go on for a later one, what raising found is kept in its place and settles whether
 -- there is a choice, and one alternative after the other is met or not. Assumes nothing.
 use mathlib.Core.Path.{◌≡◌, refl, sym, ap, ◌∙◌}
-use mathlib.Core.Bool.{Bool, true, false, ◌&&◌, ◌||◌}
+use mathlib.Core.Bool.{Bool, true, false, ◌&&◌, ◌||◌, false≢true}
 use mathlib.Core.Logic.{◌⊎◌, ⊎_elim}
 use mathlib.Core.List.{List, [], ◌∷◌}
 use Prim.Native.Nat.{ℕ, zero, suc, ◌+◌, ◌-◌, ◌*◌, ◌≤◌, ◌<◌}
@@ -32,7 +32,7 @@ use Rattle.marks.specs.Marked.{Choosing, Marked, Started, Raised}
 use Rattle.marks.proofs.Choices.{choice_trigger}
 use Rattle.marks.proofs.Marks.{later_same}
 use Rattle.matching.specs.Search.{Leads}
-use Rattle.matching.specs.Carried.{Going, handed, Carry, Keeping, Carried}
+use Rattle.matching.specs.Carried.{Going, handed, ended, Carry, Keeping, Carried}
 use Rattle.matching.proofs.Fresh.{later_trans}
 
 -- ---- words that are all 0
@@ -140,6 +140,13 @@ module _ (b p : List ℕ) (a : Alternative) where
 
       ever : Raised b p a t NoneEver → placeable b p a a.names 0 (triggered_in p t) ≡ false
       ever q = none_placed t (q.never t (later_same t))
+
+  -- an alternative that has ended has no choice
+  pub ended_none : (t : Token) (k : Option Found) → ended k ≡ true → Carry b p a t k → placeable b p a a.names 0 (triggered_in p t) ≡ false
+  ended_none t None h k = absurd (false≢true h)
+  ended_none t (Some (Open m)) h k = absurd (false≢true h)
+  ended_none t (Some (NoneNow m)) h k = absurd (false≢true h)
+  ended_none t (Some NoneEver) h k = none_placed t (k.never t (later_same t))
 
   -- ---- what raising begins with
 

@@ -1,5 +1,5 @@
 -- Marks that are kept from one trigger token to the next: the state of the search between two calls. Assumes nothing.
-use Rattle.std.specs.Prelude.{Option, Some, None, ◌≡◌, false, List, ℕ, ◌+◌, ◌*◌, ◌<◌, length, get_or}
+use Rattle.std.specs.Prelude.{Option, Some, None, ◌≡◌, Bool, true, false, List, ℕ, ◌+◌, ◌*◌, ◌<◌, length, get_or}
 use Rattle.lines.specs.declared.Token.{Token}
 use Rattle.choice.specs.declared.Alternative.{Alternative}
 use Rattle.choice.specs.Met.{Choice, put}
@@ -31,6 +31,13 @@ abbrev pub handed : Token → Found → Option Lead
 handed t (Open m) = Some (for_token t m)
 handed t (NoneNow m) = Some (for_token t m)
 handed t NoneEver = None
+
+-- whether it is kept that there is no choice any more
+abbrev pub ended : Option Found → Bool
+ended None = false
+ended (Some (Open m)) = false
+ended (Some (NoneNow m)) = false
+ended (Some NoneEver) = true
 
 -- what is kept of each of n alternatives from a place on; there are 64 places
 pub record Carried (e : ℕ) (b p : List ℕ) (t : Token) (n at : ℕ) (l : List (Option Found)) : Type 0 where

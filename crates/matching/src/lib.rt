@@ -2,7 +2,7 @@
 // said of every e.
 #![tactic(auto)]
 
-ghost use Rattle.std.specs.Prelude.{◌≡◌, Some, None, ◌+◌, ◌*◌, ◌<◌, ◌≤◌, ◌^◌, get_or, set};
+ghost use Rattle.std.specs.Prelude.{◌≡◌, ℕ, List, Some, None, ◌+◌, ◌*◌, ◌<◌, ◌≤◌, ◌^◌, get_or, set};
 ghost use Rattle.layout.specs.Layout.{offset};
 ghost use Rattle.lines.specs.Lines.{line_of};
 ghost use Rattle.lines.specs.Ends.{plan_end};
@@ -10,7 +10,7 @@ ghost use Rattle.choice.specs.Met.{put};
 ghost use Rattle.choice.specs.Asked.{Tied, met_at};
 ghost use Rattle.marks.specs.Marked.{Raised};
 ghost use Rattle.matching.specs.Search.{wanted, Tying};
-ghost use Rattle.matching.specs.Carried.{handed, Carry, Settled, Keeping, Carried};
+ghost use Rattle.matching.specs.Carried.{handed, ended, Carry, Settled, Keeping, Carried};
 
 use choice::{Alternative, Tokens, put, token_time, triggered};
 use lines::Token;
@@ -169,6 +169,23 @@ fn raise_kept(
     }
 }
 
+// Nothing is kept of the next rule's n alternatives. One room serves all rules: to clear the whole of it for each took longer than most rules do.
+pub fn forget(kept: &mut [Option<Found>; 64], n: usize)
+    ensures { (e : ℕ) → (b p : List ℕ) → (t : Token) → (at : ℕ) → Carried e b p t n at kept.new }
+{
+    for i in 0..n.min(64) {
+        kept[i] = None;
+    }
+}
+
+// Whether it is kept of alternative number i that it has no choice any more.
+#[tactic(auto, unfolding(crate::specs::Carried::ended))]
+fn has_ended(kept: &[Option<Found>; 64], i: usize) -> bool
+    ensures { result ≡ ended (get_or kept.now i None) }
+{
+    matches!(kept.get(i), Some(Some(Found::NoneEver)))
+}
+
 // What is kept of alternative number i: nothing where there is no place for it.
 fn kept_of(kept: &[Option<Found>; 64], i: usize) -> Option<Found>
     ensures { result ≡ get_or kept.now i None }
@@ -204,6 +221,10 @@ fn settle(
             times: triggered(last, t),
             rests: [0; 16],
         });
+    }
+    // asked in place: for most trigger tokens of an alternative that has ended, moving its marks about would be all that is done
+    if has_ended(kept, i) {
+        return None;
     }
     let found = raise_kept(b, p, last, t, a, kept_of(kept, i));
     keep(kept, i, found);

@@ -7,7 +7,7 @@ use native.Mathlib.Numerals.{add-one}
 use native.Mathlib.Omega.{arith}
 use lib.Dec.{ltb, leb, eqb}
 use lib.ListN.{length, get_or}
-use borrow.Author.Tests.{ne_eqb, eq-eqb, eqb-true, eqb-false, lt-ltb, ltb-true, ltb-false, le-leb, leb-true}
+use borrow.Author.Tests.{ne_eqb, eq-eqb, eqb-true, eqb-false, lt-ltb, ltb-true, le-leb, leb-true}
 use Rattle.std.specs.Bool.{MatchBool}
 use Rattle.std.specs.List.{AllWithin, HoldsAt, IsAllAdjacentAnswer, list_any}
 use Rattle.words.specs.Lists.{any}
@@ -34,7 +34,7 @@ risen from n x xs h = by (leb from x) (ltb x n) (rising (x + 1) n xs) refl refl 
     by true false c p q r h = absurd (false≢true h)
     by false b c p q r h = absurd (false≢true h)
 
--- ---- the test: in order, and each number below n
+-- ---- the test: in order, with each number below n
 
 -- what rises is
 rising-order : (from n : ℕ) (xs : List ℕ) → rising from n xs ≡ true → (k : ℕ) → suc k < length xs → get_or xs k 0 < get_or xs (suc k) 0
@@ -68,17 +68,31 @@ falls n xs h = go (rising 0 n xs) refl
     go true e = absurd (h e)
     go false e = refl
 
-pub out-of-order : (n : ℕ) (xs : List ℕ) (r : Bool) → IsAllAdjacentAnswer (λ x y b. b ≡ ltb x y) xs r → r ≡ false → r ≡ rising 0 n xs
+-- a number and the next are in order, and the next is below n
+abbrev pub ordered : ℕ → ℕ → ℕ → Bool
+ordered n x y = ltb x y && ltb y n
+
+ordered_lt : (n x y : ℕ) → ordered n x y ≡ true → x < y
+ordered_lt n x y h = by (ltb x y) refl h
+  where
+    by : (a : Bool) → ltb x y ≡ a → (a && ltb y n) ≡ true → x < y
+    by true p h = ltb-true x y p
+    by false p h = absurd (false≢true h)
+
+pub out-of-order : (n : ℕ) (xs : List ℕ) (r : Bool) → IsAllAdjacentAnswer (λ x y b. b ≡ ordered n x y) xs r → r ≡ false → r ≡ rising 0 n xs
 out-of-order n xs true h e = absurd (false≢true (sym e))
 out-of-order n xs false h e =
-    let l = ltb-false _ _ (sym (rw (add-one h.0) at (h.2 0))) in
-    falls n xs (λ q. let o = rising-order 0 n xs q h.0 (rw (add-one h.0) at h.1) in omega arith)
+    falls n xs (λ q.
+    let l = rw (add-one h.0) at h.1 in
+    let o = lt-ltb _ _ (rising-order 0 n xs q h.0 l) in
+    let b = lt-ltb _ _ (rising-below 0 n xs q (suc h.0) l) in
+    false≢true (rw (o, b) at (rw (add-one h.0) at (h.2 0))))
 
-pub in-order : (n : ℕ) (xs : List ℕ) (r a : Bool) → IsAllAdjacentAnswer (λ x y b. b ≡ ltb x y) xs r → r ≡ true
+pub in-order : (n : ℕ) (xs : List ℕ) (r a : Bool) → IsAllAdjacentAnswer (λ x y b. b ≡ ordered n x y) xs r → r ≡ true
     → MatchBool a (AllWithin (λ x. x < n) xs 0 (length xs)) ((k : ℕ) × (k < length xs) × HoldsAt (λ x. n ≤ x) xs k) → a ≡ rising 0 n xs
 in-order n xs false a o e h = absurd (false≢true e)
 in-order n xs true true o e h =
-    sym (rising-both 0 n xs (λ k l. rw (add-one k) at (ltb-true _ _ (sym (o k 0 (omega arith))))) (λ k l. h k 0 (omega arith) l) (λ l. omega arith))
+    sym (rising-both 0 n xs (λ k l. rw (add-one k) at (ordered_lt n _ _ (sym (o k 0 (omega arith))))) (λ k l. h k 0 (omega arith) l) (λ l. omega arith))
 in-order n xs true false o e h = falls n xs (λ q. let b = rising-below 0 n xs q h.0 h.1 in let l = h.2 0 in omega arith)
 
 -- ---- the list of the kept rules

@@ -16,11 +16,13 @@ use words::{number_at, word_at};
 
 // ---- the list of numbers
 
-// Whether the list is strictly increasing, with each number below n.
+// Whether the list is strictly increasing, with each number below n. The order is asked together with the bound: of a list that rises past n,
+// however long it is, no more is read than up to there.
 fn rises(list: &[u32], n: usize) -> bool
     ensures { result ≡ rising 0 n list.now }
 {
-    list.is_sorted_by(|a, b| *a < *b) && list.iter().all(|x| (*x as usize) < n)
+    list.is_sorted_by(|a, b| (*a < *b) & ((*b as usize) < n))
+        && list.iter().all(|x| (*x as usize) < n)
 }
 
 // Lists the numbers of the rules that are kept, of n, and answers how many they are. The list is a lent array with a length beside it, since the

@@ -18,7 +18,8 @@ const END: u32 = 0;
 
 const START: u32 = 1;
 
-// Sends the end or the start of the token at a place, on line v.
+// Sends the end or the start of the token at a place, on line v. Inlined, and `send_start` too: then `near` below never lies in memory.
+#[inline]
 fn send_token(to: &mut Sink<'_>, plan: &[u32], v: u32, place: usize, kind: u32)
     requires { (to.old.sent.at < 2 ^ 58) × (place < 2 ^ 60) }
     ensures { SendsTo to.old to.new (action_words (word plan.now 0) (action v (word plan.now place) kind (job_at plan.now place))) × (to.new.sent.at ≤ to.old.sent.at + 4) }
@@ -30,6 +31,7 @@ fn send_token(to: &mut Sink<'_>, plan: &[u32], v: u32, place: usize, kind: u32)
 }
 
 // Sends the start of the token that a line is at, if there is one.
+#[inline]
 fn send_start(to: &mut Sink<'_>, plan: &[u32], v: u32, l: Stand)
     requires { (to.old.sent.at < 2 ^ 57) × Small l }
     ensures { SendsTo to.old to.new (flat_map (action_words (word plan.now 0)) (start_on v (line_left plan.now l))) × (to.new.sent.at ≤ to.old.sent.at + 4) }
@@ -75,7 +77,14 @@ pub fn send_event(to: &mut Sink<'_>, plan: &[u32], s: [Stand; 16], n: u32, first
     ensures { SendsTo to.old to.new (event_words (word plan.now 0) (event m (by_line (happens first m) 0 (lines_left plan.now s n 0)))) × (to.new.sent.at ≤ to.old.sent.at + 130) }
 {
     let count = moments::count(s, n as usize, first, m);
-    to.send(m);
-    to.send(count);
-    send_actions(to, plan, s, n, first, m);
+    // a sink that no caller sees: how far the words are stays in registers, and is stored once
+    let mut near = Sink {
+        list: to.list,
+        room: &mut *to.room,
+        sent: to.sent,
+    };
+    near.send(m);
+    near.send(count);
+    send_actions(&mut near, plan, s, n, first, m);
+    to.sent = near.sent;
 }

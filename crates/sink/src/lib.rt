@@ -4,6 +4,7 @@
 ghost use Rattle.std.specs.Prelude.{[], ◌∷◌, ◌≡◌, ◌+◌, ◌<◌, ◌≤◌, ◌^◌, set};
 ghost use Rattle.event_list.specs.Events.{action};
 ghost use Rattle.event_list.specs.Words.{action_words};
+ghost use Rattle.event_list.specs.Sends.{Sends};
 ghost use Rattle.sink.specs.Sinks.{SendsTo};
 
 // The list edition whose actions have a job.
@@ -26,6 +27,20 @@ pub fn put_at(room: &mut [u32], at: usize, w: u32)
     room[at] = w;
 }
 
+// Sends a word. By value, so that a row of words is stored into the sink once.
+fn send_word(list: &[u32], room: &mut [u32], o: Sent, w: u32) -> Sent
+    requires { o.at < 2 ^ 60 }
+    ensures { Sends list.now room.old room.new o.at o.same result.at result.same (w ∷ []) }
+{
+    let at = o.at;
+    put_at(room, at, w);
+    let x = words::word_at(list, at);
+    Sent {
+        at: at + 1,
+        same: o.same & (x == w),
+    }
+}
+
 // Where words are sent: the list that they are compared with, the room that they are stored in, and how far they were sent.
 #[derive(Drop)]
 pub struct Sink<'a> {
@@ -40,13 +55,7 @@ impl Sink<'_> {
         requires { self.old.sent.at < 2 ^ 60 }
         ensures { SendsTo self.old self.new (w ∷ []) }
     {
-        let at = self.sent.at;
-        put_at(self.room, at, w);
-        let x = words::word_at(self.list, at);
-        self.sent = Sent {
-            at: at + 1,
-            same: self.sent.same & (x == w),
-        };
+        self.sent = send_word(self.list, self.room, self.sent, w);
     }
 
     // Sends an action: three words, and its job behind them in edition 2. Edition and kind are numbers, since they are words of a list.
@@ -54,11 +63,16 @@ impl Sink<'_> {
         requires { self.old.sent.at < 2 ^ 59 }
         ensures { SendsTo self.old self.new (action_words edition (action line value kind job)) × (self.new.sent.at ≤ self.old.sent.at + 4) }
     {
-        self.send(line);
-        self.send(value);
-        self.send(kind);
+        // read once: a store to the room might change them, for all that the compiler knows
+        let list = self.list;
+        let room = &mut *self.room;
+        let a = send_word(list, room, self.sent, line);
+        let b = send_word(list, room, a, value);
+        let c = send_word(list, room, b, kind);
         if edition == WITH_JOBS {
-            self.send(job);
+            self.sent = send_word(list, room, c, job);
+            return;
         }
+        self.sent = c;
     }
 }

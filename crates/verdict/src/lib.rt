@@ -14,6 +14,7 @@ ghost use Rattle.verdict.specs.Survey.{Surveyed, placed_rules, placed_fault, jud
 use answers::{Answer, Done, Refusal};
 use clock::Time;
 use lines::Token;
+use marks::Found;
 use words::{number_at, word_at};
 
 // The token at a place of the plan, which lasts from start to end.
@@ -29,8 +30,15 @@ fn token_at(p: &[u32], at: usize, start: u64, end: u64) -> Token
     }
 }
 
-// How many trigger tokens the rule at a place has, on its trigger's line, or the first for which it isn't met.
-fn survey_line(e: usize, b: &[u32], p: &[u32], place: usize) -> Result<u32, u32>
+// How many trigger tokens the rule at a place has, on its trigger's line, or the first for which it isn't met. `kept` is room for what is found
+// for one trigger token and serves the next; it may hold anything.
+fn survey_line(
+    e: usize,
+    b: &[u32],
+    p: &[u32],
+    place: usize,
+    kept: &mut [Option<Found>; 64],
+) -> Result<u32, u32>
     requires { (place < 2 ^ 60) × (word b.now place ≡ no_limit → ⊥) }
     ensures { Surveyed e b.now p.now place result }
 {
@@ -44,12 +52,12 @@ fn survey_line(e: usize, b: &[u32], p: &[u32], place: usize) -> Result<u32, u32>
     let mut at = lines::line_place(p, line);
     let mut start: u64 = 0;
     let mut seen: u32 = 0;
-    let mut kept = [None; 64];
+    matching::forget(kept, n as usize);
     for token in 0..count {
         let end = start + word_at(p, at + 1) as u64;
         if word_at(p, at) == value {
             let t = token_at(p, at, start, end);
-            if !matching::met(e, b, p, first, n, last, t, &mut kept) {
+            if !matching::met(e, b, p, first, n, last, t, kept) {
                 return Err(token);
             }
             seen += 1;
@@ -62,23 +70,30 @@ fn survey_line(e: usize, b: &[u32], p: &[u32], place: usize) -> Result<u32, u32>
 
 // How many trigger tokens the rule at a place has, or the first for which it isn't met. A rule without trigger needs to be met
 // once, and counts 1.
-fn survey(e: usize, b: &[u32], p: &[u32], place: usize) -> Result<u32, u32>
+fn survey(
+    e: usize,
+    b: &[u32],
+    p: &[u32],
+    place: usize,
+    kept: &mut [Option<Found>; 64],
+) -> Result<u32, u32>
     requires { place < 2 ^ 60 }
     ensures { Surveyed e b.now p.now place result }
 {
     if word_at(b, place) != Time::NO_LIMIT {
-        return survey_line(e, b, p, place);
+        return survey_line(e, b, p, place, kept);
     }
-    let mut kept = [None; 64];
+    let n = word_at(b, place + 3);
+    matching::forget(kept, n as usize);
     let met = matching::met(
         e,
         b,
         p,
         word_at(b, place + 2),
-        word_at(b, place + 3),
+        n,
         lines::plan_end(p),
         choice::nobody(),
-        &mut kept,
+        kept,
     );
     if met { Ok(1) } else { Err(0) }
 }
@@ -88,7 +103,7 @@ pub fn survey_rule(book: &[u32], plan: &[u32], rule: u32) -> Result<u32, u32>
     ensures { Surveyed 1 book.now plan.now (record_at 1 book.now 2 rule) result }
 {
     let place = number_at(book, 7) + rule as usize * 4;
-    survey(1, book, plan, place)
+    survey(1, book, plan, place, &mut [None; 64])
 }
 
 // All rules in order: the first that isn't met, or how many trigger tokens were examined.
@@ -99,9 +114,10 @@ pub fn examine(e: usize, b: &[u32], p: &[u32]) -> Answer
     let n = word_at(b, 6);
     let table = number_at(b, 7);
     let mut seen: u32 = 0;
+    let mut kept = [None; 64];
     for rule in 0..n {
         let place = table + 4 * rule as usize;
-        match survey(e, b, p, place) {
+        match survey(e, b, p, place, &mut kept) {
             Ok(count) => seen += count,
             Err(token) => return Err(Refusal::RuleNotMet { rule, token }),
         }

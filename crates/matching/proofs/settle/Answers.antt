@@ -1,10 +1,15 @@
--- `matching::settle` meets its contract: no marks for more names than a choice has places, or what raising found. Assumes nothing.
-use mathlib.Core.Path.{refl}
-use Rattle.matching.proofs.Carrying.{bare_leads, marked_leads, keeping_none, keeping_set, raised_none}
+-- `matching::settle` meets its contract: no marks for more names than a choice has places, no choice where it has ended, or what raising found. Assumes nothing.
+use mathlib.Core.Path.{refl, sym, ◌∙◌}
+use Rattle.matching.proofs.Carrying.{bare_leads, marked_leads, keeping_none, keeping_set, raised_none, ended_none}
 use Rattle.matching.proofs.settle.Goals as goal
 
 pub returns-then-a-gt4 : goal.returns-then-a-gt4
 returns-then-a-gt4 c = (bare_leads _ _ _ c.args.t _ _ refl, keeping_none _ _ _ c.args.t _ _ c.requires.3)
+
+pub returns-then-has_ended : goal.returns-then-has_ended
+returns-then-has_ended c =
+    let k = c.requires.3 in
+    (ended_none _ _ _ c.args.t _ (sym c.has_ended.ensures ∙ c.if-has_ended.true) k, keeping_none _ _ _ c.args.t _ _ k)
 
 pub returns-in-Open : goal.returns-in-Open
 returns-in-Open c =

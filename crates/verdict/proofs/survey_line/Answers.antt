@@ -1,10 +1,10 @@
 -- `verdict::survey_line` meets its contract: token by token, those that are left are one fewer. Assumes nothing.
 use native.Mathlib.Omega.{arith}
-use mathlib.Core.Path.{◌≡◌, refl, ap}
+use mathlib.Core.Path.{◌≡◌, ap}
 use mathlib.Core.Bool.{not}
 use Rattle.lines.specs.declared.Token.{Token}
 use Rattle.marks.specs.Marked.{Later}
-use Rattle.matching.proofs.Fresh.{carried_fresh, carried_later}
+use Rattle.matching.proofs.Fresh.{carried_later}
 use Rattle.verdict.proofs.Steps.{line-start, line_other, line-met, line-unmet, line-end}
 use Rattle.verdict.proofs.survey_line.Goals as goal
 use Rattle.verdict.proofs.survey_line.Goals.{then-word_at-value+else-not-met, else-word_at-value}
@@ -21,7 +21,7 @@ loop-token-init c =
     let some = c.requires.1 in (
       record { triggered = some; value = c.word_at-value.ensures; first = c.word_at-first.ensures; number = c.word_at-n.ensures },
       line-start _ _ _ _ _ _ _ some c.number_at-line.ensures.0 c.word_at-count.ensures c.line_place-at.ensures.0 (omega arith) c.line_place-at.ensures.1,
-      carried_fresh _ _ _ _ _ _ _ refl refl,
+      c.forget.ensures _ _ _ _ _,
       c.token_width-width.ensures.0,
       c.token_width-width.ensures.2,
     )
