@@ -37,8 +37,8 @@ fn list_alternatives(s: &[u32], left: &[u32], w: &mut Writer<'_>)
 
 // ---- the tables
 
-// Copies n words of the book, those from `at` on, to a place, and answers the place behind them; past the end they are 0. The room and the place
-// are its own, since a step of the writer for each word takes longer.
+// Copies n words of the book, those from `at` on, to a place, and answers the place behind them; past the end they are 0. It has the room
+// and the place as they are, since a step of the writer for each word takes longer.
 fn copy_run(s: &[u32], at: usize, n: usize, out: &mut [u32], to: usize) -> usize
     requires { (at + n < 2 ^ 63) × Has out.old to (words_at s.now at n) }
     ensures { Wrote out.old out.new to result (words_at s.now at n) }

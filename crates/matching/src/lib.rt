@@ -169,7 +169,8 @@ fn raise_kept(
     }
 }
 
-// Nothing is kept of the next rule's n alternatives. One room serves all rules: to clear the whole of it for each took longer than most rules do.
+// Nothing is kept of the next rule's n alternatives. So one room can serve all rules: to clear the whole of it for each took longer than most
+// rules do.
 pub fn forget(kept: &mut [Option<Found>; 64], n: usize)
     ensures { (e : ℕ) → (b p : List ℕ) → (t : Token) → (at : ℕ) → Carried e b p t n at kept.new }
 {
@@ -222,7 +223,7 @@ fn settle(
             rests: [0; 16],
         });
     }
-    // asked in place: for most trigger tokens of an alternative that has ended, moving its marks about would be all that is done
+    // asked in place: an alternative that has ended stays so, and to move what is kept of it about would be all that is done
     if has_ended(kept, i) {
         return None;
     }

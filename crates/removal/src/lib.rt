@@ -16,8 +16,8 @@ use words::{number_at, word_at};
 
 // ---- the list of numbers
 
-// Whether the list is strictly increasing, with each number below n. The order is asked together with the bound: of a list that rises past n,
-// however long it is, no more is read than up to there.
+// Whether the list is strictly increasing, with each number below n. The order is asked together with the bound: a list, however long it is, is
+// left at its first two numbers that don't rise or pass n.
 fn rises(list: &[u32], n: usize) -> bool
     ensures { result ≡ rising 0 n list.now }
 {

@@ -18,7 +18,7 @@ const END: u32 = 0;
 
 const START: u32 = 1;
 
-// Sends the end or the start of the token at a place, on line v. Inlined, and `send_start` too: then `near` below never lies in memory.
+// Sends the end or the start of the token at a place, on line v. Inlined, and `send_start` too, so that `near` below need not lie in memory.
 #[inline]
 fn send_token(to: &mut Sink<'_>, plan: &[u32], v: u32, place: usize, kind: u32)
     requires { (to.old.sent.at < 2 ^ 58) × (place < 2 ^ 60) }
