@@ -2,7 +2,8 @@
 // of one that it is too early. Kinds and the edition stay numbers, as in `choice`: `whose` and `ask_at` are said of every one.
 #![tactic(auto)]
 
-ghost use Rattle.std.specs.Prelude.{◌≡◌, ◌+◌, ◌*◌, ◌<◌, ◌≤◌, ◌^◌};
+ghost use Rattle.std.specs.Prelude.{◌≡◌, ◌+◌, ◌*◌, ◌<◌, ◌≤◌, ◌^◌, length};
+ghost use Rattle.words.specs.Words.{word};
 ghost use Rattle.lines.specs.Ends.{plan_end};
 ghost use Rattle.lines.specs.Lines.{token_width, line_of};
 ghost use Rattle.choice.specs.Met.{token_time};
@@ -30,9 +31,32 @@ pub struct Seen {
     pub end: u64,
 }
 
-// The first of some tokens that has the value that is asked for, if one has. It stays a call: taken into its callers, its loop reads the plan's
-// place and length from the stack for each token.
+// The first two words of a token of which the plan has no second one. A plan that passed has no such token, so this stays out of the loop of
+// `seek`, which gets shorter by it.
+#[cold]
 #[inline(never)]
+fn head_cut(p: &[u32], place: usize) -> (u32, u32)
+    requires { (place < 2 ^ 60) × (length p.now ≤ place + 1) }
+    ensures value { result.0 ≡ word p.now place }
+    ensures duration { result.1 ≡ word p.now (place + 1) }
+{
+    (word_at(p, place), 0)
+}
+
+// The first two words of the token at a place, its value and its duration. Where the second is, the first is too: one test does for both.
+fn head_at(p: &[u32], place: usize) -> (u32, u32)
+    requires { place < 2 ^ 60 }
+    ensures value { result.0 ≡ word p.now place }
+    ensures duration { result.1 ≡ word p.now (place + 1) }
+{
+    if place + 1 < p.len() {
+        (p[place], p[place + 1])
+    } else {
+        head_cut(p, place)
+    }
+}
+
+// The first of some tokens that has the value that is asked for, if one has.
 fn seek(p: &[u32], w: Tokens) -> Option<Seen>
     requires { (w.place + 3 * w.count < 2 ^ 60) × (w.start + 4294967296 * w.count < 2 ^ 64) × (w.width ≡ token_width p.now) }
     ensures { Sought p.now w result }
@@ -40,8 +64,9 @@ fn seek(p: &[u32], w: Tokens) -> Option<Seen>
     let mut place = w.place;
     let mut start = w.start;
     for i in 0..w.count {
-        let end = start + word_at(p, place + 1) as u64;
-        if word_at(p, place) == w.value {
+        let (value, duration) = head_at(p, place);
+        let end = start + duration as u64;
+        if value == w.value {
             return Some(Seen {
                 left: w.count - i,
                 place,
@@ -69,6 +94,8 @@ fn advance(p: &[u32], m: &mut Lead, k: usize, w: Tokens) -> bool
 }
 
 // Marks the first token of its value for each name of an alternative, in a plan that ends at `last`; none where a name has no such token.
+// It stays a call: with its loop beside it, that of `asks_early` reads where book and plan are from the stack for each ask.
+#[inline(never)]
 pub fn start_marks(b: &[u32], p: &[u32], last: u64, t: Token, a: Alternative) -> Option<Lead>
     requires { (a.names ≤ 4) × (a.name < 2 ^ 40) × (last ≡ plan_end (line_of p.now)) }
     ensures { Started b.now p.now a t result }

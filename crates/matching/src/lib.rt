@@ -169,8 +169,8 @@ fn raise_kept(
     }
 }
 
-// Nothing is kept of the next rule's n alternatives. So one room can serve all rules: to clear the whole of it for each took longer than most
-// rules do.
+// Nothing is kept of the next rule's n alternatives. So one room can serve all rules: to clear the whole of it for each shows in the time where
+// the rules have nothing else to do.
 pub fn forget(kept: &mut [Option<Found>; 64], n: usize)
     ensures { (e : ℕ) → (b p : List ℕ) → (t : Token) → (at : ℕ) → Carried e b p t n at kept.new }
 {

@@ -16,7 +16,7 @@ pub loop-i-preserved : goal.loop-i-preserved
 loop-i-preserved c = (
   omega (arith, c.loop-i.invariant.0, c.loop-i.invariant.3),
   omega arith,
-  skipped_on _ _ _ c.loop-i.i _ _ _ _ c.requires.2 c.loop-i-test.true c.word_at.ensures c.word_at-in-loop-i.ensures c.if-word_at-w.false (omega arith) c.loop-i.invariant.2,
+  skipped_on _ _ _ c.loop-i.i _ _ _ _ c.requires.2 c.loop-i-test.true c.head_at-value.ensures.duration c.head_at-value.ensures.value c.if-value-w.false (omega arith) c.loop-i.invariant.2,
   c.loop-i.invariant.3,
 )
 
